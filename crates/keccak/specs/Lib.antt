@@ -1,0 +1,4 @@
+pub mod Lanes
+pub mod Steps
+pub mod Tables
+pub mod Rounds

@@ -1,0 +1,8 @@
+//! The exports of libprobe.a as safe functions, and what the tests over them share.
+//!
+//! Each stage of the library has its own module, and every function there is `inline`: a program
+//! asks the archive only for the symbols that it uses, so an archive that does not have the later
+//! exports yet still serves the earlier tests.
+
+pub mod inputs;
+pub mod permutation;
