@@ -1,2 +1,3 @@
 pub mod Rotation
 pub mod Rounds
+pub mod States

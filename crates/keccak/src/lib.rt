@@ -5,7 +5,7 @@ ghost use Prim.Native.Nat.{_<_};
 ghost use Rattle.keccak.specs.Lanes.{rotl};
 ghost use Rattle.keccak.specs.Steps.{parities, effects, theta, rho, pi, chi, iota};
 ghost use Rattle.keccak.specs.Tables.{offsets, constants};
-ghost use Rattle.keccak.specs.Rounds.{round, rounds};
+ghost use Rattle.keccak.specs.Rounds.{round, f1600};
 
 // The offsets of ρ, lane by lane.
 const OFFSETS: [u32; 25] = [
@@ -262,7 +262,7 @@ fn one_round(a: [u64; 25], constant: u64) -> [u64; 25]
 
 // The permutation: all 24 rounds.
 pub fn permuted(a: [u64; 25]) -> [u64; 25]
-    ensures { λ r. ⌜ r ≡ rounds 64 24 24 a ⌝ }
+    ensures { λ r. ⌜ r ≡ f1600 a ⌝ }
 {
     // a const array is laid out anew wherever a variable indexes it: once, before the loop
     let table = CONSTANTS;

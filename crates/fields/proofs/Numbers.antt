@@ -1,0 +1,80 @@
+-- Laws of numbers of k bytes, each once over k.
+use mathlib.Core.Path.{_≡_, refl, sym, ap, _∙_}
+use mathlib.Core.List.{List, [], _∷_, _++_, append-assoc, append-nil}
+use Prim.Native.Nat.{ℕ, zero, suc, _+_, _-_, _*_, _/_, _%_, _^_, _≤_, _<_}
+use native.Mathlib.Nat.{add-zero, add-suc, mul-assoc, add-mul, div-div-eq-div-mul, div-one, pow-succ', pow-suc, one-le-pow, zero-lt-suc}
+use native.Mathlib.Numerals.{add-one}
+use native.Mathlib.Omega.{arith}
+use lib.Arith.{mod-mul}
+use lib.ListN.{length, getD, set, length-append}
+use lib.Seq.{sets, length-sets, getD-set-same, getD-set-other}
+use Rattle.fields.specs.Numbers.{numberAt, bytesOf}
+use Rattle.fields.proofs.Stores.{sets-append, sets-more}
+
+-- a number of m + n bytes is its first m and its last n
+pub number-join : (m n : ℕ) (b : List ℕ) (at : ℕ) → numberAt (m + n) b at ≡ numberAt m b at * 256 ^ n + numberAt n b (at + m)
+unfolding numberAt
+number-join m zero b at = rw (add-zero m) (omega arith)
+number-join m (suc n) b at =
+    let e : at + (m + n) ≡ at + m + n = omega arith in
+    rw (add-suc m n, number-join m n b at, e, add-mul, mul-assoc, pow-suc 256 n) (omega arith)
+
+pub length-bytesOf : (k n : ℕ) → length (bytesOf k n) ≡ k
+unfolding bytesOf
+length-bytesOf zero n = refl
+length-bytesOf (suc k) n = omega (arith, length-append (bytesOf k (n / 256)) (n % 256 ∷ []), length-bytesOf k (n / 256))
+
+pub bytes-join : (m n x : ℕ) → bytesOf (m + n) x ≡ bytesOf m (x / 256 ^ n) ++ bytesOf n x
+unfolding bytesOf
+bytes-join m zero x = rw (add-zero m, div-one x) (sym (append-nil (bytesOf m x)))
+bytes-join m (suc n) x =
+    rw (add-suc m n, bytes-join m n (x / 256), div-div-eq-div-mul, pow-succ' 256 n)
+    (append-assoc (bytesOf m (x / (256 * 256 ^ n))) (bytesOf n (x / 256)) (x % 256 ∷ []))
+
+-- the last n bytes are those of the remainder
+pub bytes-low : (n x : ℕ) → bytesOf n (x % 256 ^ n) ≡ bytesOf n x
+unfolding bytesOf
+bytes-low zero x = refl
+bytes-low (suc n) x =
+    let e : x % 256 ^ suc n ≡ (x / 256 % 256 ^ n) * 256 + x % 256 = rw (pow-suc 256 n) (mod-mul x (one-le-pow n 256 (zero-lt-suc 255)) (zero-lt-suc 255)) in
+    let p : x % 256 ^ suc n / 256 ≡ x / 256 % 256 ^ n = omega arith in
+    let q : x % 256 ^ suc n % 256 ≡ x % 256 = omega arith in
+    rw (p, q, bytes-low n (x / 256))
+
+-- a store past the number
+number-before : (k : ℕ) (b : List ℕ) (at j v : ℕ) → at + k ≤ j → numberAt k (set b j v) at ≡ numberAt k b at
+unfolding numberAt
+number-before zero b at j v h = refl
+number-before (suc k) b at j v h =
+    let g : getD (set b j v) (at + k) 0 ≡ getD b (at + k) 0 = getD-set-other b j (at + k) v 0 (λ e. omega arith) in
+    rw (number-before k b at j v (omega arith), g)
+
+-- a number that was stored is read again
+pub number-put : (k : ℕ) (b : List ℕ) (at n : ℕ) → at + k ≤ length b → n < 256 ^ k → numberAt k (sets b at (bytesOf k n)) at ≡ n
+unfolding numberAt bytesOf
+number-put zero b at n h l = omega arith
+number-put (suc k) b at n h l =
+    let s : sets b at (bytesOf k (n / 256) ++ (n % 256 ∷ [])) ≡ set (sets b at (bytesOf k (n / 256))) (at + k) (n % 256) =
+    sym (sets-more b at (bytesOf k (n / 256)) (n % 256) (at + k) (ap (λ (i : ℕ). at + i) (sym (length-bytesOf k (n / 256))))) in
+    let i : at + k < length (sets b at (bytesOf k (n / 256))) = omega (arith, length-sets b at (bytesOf k (n / 256))) in
+    let q : n / 256 < 256 ^ k = omega (arith, pow-suc 256 k) in
+    rw (s, getD-set-same (sets b at (bytesOf k (n / 256))) (at + k) (n % 256) 0 i, number-before k (sets b at (bytesOf k (n / 256))) at (at + k) (n % 256) (omega arith), number-put k b at (n / 256) (omega arith) q)
+    (omega arith)
+
+-- a number stored as its high and its low half
+pub put-join : (m n : ℕ) (b c d : List ℕ) (at x : ℕ) → c ≡ sets b at (bytesOf m (x / 256 ^ n)) → d ≡ sets c (at + m) (bytesOf n (x % 256 ^ n))
+    → d ≡ sets b at (bytesOf (m + n) x)
+put-join m n b c d at x e f =
+    f ∙ ap (λ (l : List ℕ). sets l (at + m) (bytesOf n (x % 256 ^ n))) e
+    ∙ ap (sets (sets b at (bytesOf m (x / 256 ^ n))) (at + m)) (bytes-low n x)
+    ∙ sets-append b at (bytesOf m (x / 256 ^ n)) (bytesOf n x) (at + m) (ap (λ (i : ℕ). at + i) (sym (length-bytesOf m (x / 256 ^ n))))
+    ∙ ap (sets b at) (sym (bytes-join m n x))
+
+-- two bytes
+pub number-two : (b : List ℕ) (at : ℕ) → numberAt 2 b at ≡ getD b at 0 * 256 + getD b (at + 1) 0
+unfolding numberAt
+number-two b at = rw add-zero (omega arith)
+
+pub put-two : (b : List ℕ) (at n : ℕ) → n < 65536 → set (set b at (n / 256)) (at + 1) (n % 256) ≡ sets b at (bytesOf 2 n)
+unfolding bytesOf
+put-two b at n h = let e : n / 256 % 256 ≡ n / 256 = omega arith in rw (e, add-one)
