@@ -19,12 +19,14 @@ pub fn run(rows: Vec<Row>, maker: &str, runs: &str) {
 
 /// Prints the instructions of one permutation for each maker, if valgrind is installed.
 pub fn print(rows: &[Row]) {
-    let installed = Command::new("valgrind").arg("--version").output().is_ok();
+    if Command::new("valgrind").arg("--version").output().is_err() {
+        return println!("instructions/permutation: valgrind is not installed");
+    }
     let mut lines = vec![["by", "instructions/permutation"].map(str::to_string)];
     for row in rows {
-        let count = match installed && row.run.is_some() {
-            true => format!("{:.1}", instructions_per_call(row)),
-            false => "not installed".to_string(),
+        let count = match row.run {
+            Some(_) => format!("{:.1}", instructions_per_call(row)),
+            None => "not installed".to_string(),
         };
         lines.push([row.by(), count]);
     }

@@ -4,7 +4,7 @@ use std::ffi::{c_char, c_int, c_void, CStr};
 use std::ptr::{null, null_mut};
 
 /// One of OpenSSL's objects, or a function's address.
-type Object = *mut c_void;
+pub type Object = *mut c_void;
 
 extern "C" {
     fn dlopen(file: *const c_char, flags: c_int) -> Object;
@@ -18,7 +18,7 @@ const LAZILY: c_int = 1;
 ///
 /// # Safety
 /// `F` is a function pointer of the type that OpenSSL's manual gives for the name.
-unsafe fn function<F: Copy>(name: &CStr) -> Option<F> {
+pub unsafe fn function<F: Copy>(name: &CStr) -> Option<F> {
     assert_eq!(size_of::<F>(), size_of::<Object>());
     let library = dlopen(c"libcrypto.so.3".as_ptr(), LAZILY);
     if library.is_null() {
@@ -29,10 +29,20 @@ unsafe fn function<F: Copy>(name: &CStr) -> Option<F> {
 }
 
 /// Finds an algorithm by its name.
-type Fetch = unsafe extern "C" fn(Object, *const c_char, *const c_char) -> Object;
+pub type Fetch = unsafe extern "C" fn(Object, *const c_char, *const c_char) -> Object;
 
 /// Makes an empty context.
-type New = unsafe extern "C" fn() -> Object;
+pub type New = unsafe extern "C" fn() -> Object;
+
+/// Ends a message and writes a digest of the function's own length.
+type Finish = unsafe extern "C" fn(Object, *mut u8, *mut u32) -> c_int;
+
+/// Ends a message and writes as many bytes as asked.
+#[cfg(feature = "hashes")]
+type FinishLong = unsafe extern "C" fn(Object, *mut u8, usize) -> c_int;
+
+/// One of the two ways to end a message, with 32 bytes of output.
+type Ending = Box<dyn Fn(Object, &mut [u8; 32]) -> c_int>;
 
 /// A hash function, with one context used again for each message.
 pub struct Digest {
@@ -40,12 +50,33 @@ pub struct Digest {
     algorithm: Object,
     begin: unsafe extern "C" fn(Object, Object, Object) -> c_int,
     update: unsafe extern "C" fn(Object, *const u8, usize) -> c_int,
-    finish: unsafe extern "C" fn(Object, *mut u8, *mut u32) -> c_int,
+    ending: Ending,
 }
 
 impl Digest {
-    /// The hash function of that name, if OpenSSL is installed and has it.
-    pub fn find(name: &CStr) -> Option<Digest> {
+    /// SHA3-256, if OpenSSL is installed.
+    pub fn sha3_256() -> Option<Digest> {
+        // SAFETY: the type is that of the manual page, and the digest has 32 bytes.
+        let finish: Finish = unsafe { function(c"EVP_DigestFinal_ex")? };
+        let ending = move |context, out: &mut [u8; 32]| unsafe {
+            finish(context, out.as_mut_ptr(), null_mut())
+        };
+        Digest::find(c"SHA3-256", Box::new(ending))
+    }
+
+    /// SHAKE128, if OpenSSL is installed.
+    #[cfg(feature = "hashes")]
+    pub fn shake128() -> Option<Digest> {
+        // SAFETY: the type is that of the manual page, and 32 bytes are asked for.
+        let finish: FinishLong = unsafe { function(c"EVP_DigestFinalXOF")? };
+        let ending = move |context, out: &mut [u8; 32]| unsafe {
+            finish(context, out.as_mut_ptr(), out.len())
+        };
+        Digest::find(c"SHAKE128", Box::new(ending))
+    }
+
+    /// The hash function of that name.
+    fn find(name: &CStr, ending: Ending) -> Option<Digest> {
         // SAFETY: the types are those of the manual pages of each name.
         unsafe {
             let fetch: Fetch = function(c"EVP_MD_fetch")?;
@@ -57,21 +88,17 @@ impl Digest {
                 algorithm,
                 begin: function(c"EVP_DigestInit_ex")?,
                 update: function(c"EVP_DigestUpdate")?,
-                finish: function(c"EVP_DigestFinal_ex")?,
+                ending,
             })
         }
     }
 
-    /// Hashes a message into `out`, which must have room for the whole digest.
+    /// Hashes a message to 32 bytes.
     pub fn hash(&self, message: &[u8], out: &mut [u8; 32]) {
-        // SAFETY: context and algorithm are alive, and no digest used here is over 32 bytes.
-        unsafe {
-            assert_eq!((self.begin)(self.context, self.algorithm, null_mut()), 1);
-            assert_eq!(
-                (self.update)(self.context, message.as_ptr(), message.len()),
-                1
-            );
-            assert_eq!((self.finish)(self.context, out.as_mut_ptr(), null_mut()), 1);
-        }
+        let context = self.context;
+        // SAFETY: context and algorithm are alive, and the message is one slice.
+        let begun = unsafe { (self.begin)(context, self.algorithm, null_mut()) };
+        let updated = unsafe { (self.update)(context, message.as_ptr(), message.len()) };
+        assert_eq!([begun, updated, (self.ending)(context, out)], [1; 3]);
     }
 }

@@ -1,7 +1,7 @@
 //! Rows of the permutation alone.
 
 use crate::openssl::Digest;
-use crate::table::{Maker, Row};
+use crate::table::{Maker, Row, PERMUTATION};
 use compare::permutation::permute_times;
 use reference::keccak::permuted_1600;
 
@@ -10,6 +10,9 @@ const CALLS: u64 = 1_000;
 
 /// Permutations in one run of the reference, which takes its time.
 const FEW_CALLS: u64 = 50;
+
+/// Blocks of a message that is long beside a hash's own cost and still stays in the nearest cache.
+const MESSAGE: u64 = 200;
 
 /// The plain C function: permutes 25 lanes so many times.
 type Permute = unsafe extern "C" fn(lanes: *mut u64, times: u64);
@@ -39,7 +42,7 @@ pub fn rows() -> Vec<Row> {
 /// A row of the permutation, one block a call.
 fn row(maker: Maker, calls: u64, run: Option<Box<dyn FnMut()>>) -> Row {
     Row {
-        job: "permutation",
+        job: PERMUTATION.to_string(),
         maker,
         note: "",
         calls,
@@ -85,11 +88,11 @@ fn plain_c(maker: Maker, permute: Option<Permute>) -> Row {
     row(maker, CALLS, run)
 }
 
-/// OpenSSL keeps its permutation to itself: a long message is hashed and shared out by blocks.
+/// OpenSSL keeps its permutation to itself: long messages are hashed and shared out by blocks.
 fn openssl() -> Row {
-    let message = vec![0; 136 * CALLS as usize - 1];
-    let run = Digest::find(c"SHA3-256").map(|digest| -> Box<dyn FnMut()> {
-        Box::new(move || digest.hash(&message, &mut [0; 32]))
+    let message = vec![0x41; 136 * MESSAGE as usize - 1];
+    let run = Digest::sha3_256().map(|digest| -> Box<dyn FnMut()> {
+        Box::new(move || (0..CALLS / MESSAGE).for_each(|_| digest.hash(&message, &mut [0; 32])))
     });
     Row {
         note: " (SHA3-256 through EVP, per block)",

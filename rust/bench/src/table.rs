@@ -3,7 +3,10 @@
 use std::time::{Duration, Instant};
 
 /// How long the rows are run by turns; of each row the shortest run counts.
-const BUDGET: Duration = Duration::from_secs(5);
+const BUDGET: Duration = Duration::from_secs(20);
+
+/// The job that the others are held to, block by block.
+pub const PERMUTATION: &str = "permutation";
 
 /// Who does a row's job.
 #[derive(Clone, Copy, PartialEq)]
@@ -36,7 +39,8 @@ impl Maker {
 /// One line of the table before it is measured.
 pub struct Row {
     /// What is done. Rows of one job are compared with each other.
-    pub job: &'static str,
+    pub job: String,
+    /// Who does it.
     pub maker: Maker,
     /// How the measurement is taken, where that needs a word after the maker's name.
     pub note: &'static str,
@@ -77,14 +81,17 @@ pub fn measured(rows: Vec<Row>) -> Vec<Measured> {
     all
 }
 
-/// Makes one run of a row and keeps its time if it is the shortest so far.
+/// Makes two runs of a row, the first of which warms the caches for the second, and keeps a time
+/// that is the shortest so far.
 fn take_turn(measured: &mut Measured) {
     if let Some(run) = &mut measured.row.run {
-        let start = Instant::now();
-        run();
-        let time = start.elapsed().as_nanos() as f64 / measured.row.calls as f64;
-        let shortest = measured.nanoseconds.map_or(time, |known| known.min(time));
-        measured.nanoseconds = Some(shortest);
+        for _ in 0..2 {
+            let start = Instant::now();
+            run();
+            let time = start.elapsed().as_nanos() as f64 / measured.row.calls as f64;
+            let shortest = measured.nanoseconds.map_or(time, |known| known.min(time));
+            measured.nanoseconds = Some(shortest);
+        }
     }
 }
 
@@ -116,15 +123,16 @@ impl Measured {
         Some(self.nanoseconds? / best)
     }
 
+    /// Whether this is a row of the library's own.
+    fn is_library(&self) -> bool {
+        self.row.maker == Maker::Library
+    }
+
     /// This row's time for a block over the library's time for a bare permutation.
     fn against_permutation(&self, all: &[Measured]) -> Option<f64> {
-        let bare = all
-            .iter()
-            .find(|m| m.row.maker == Maker::Library)?
-            .per_block()?;
-        let own = self
-            .per_block()
-            .filter(|_| self.row.maker == Maker::Library);
+        let mut library = all.iter().filter(|m| m.is_library());
+        let bare = library.find(|m| m.row.job == PERMUTATION)?.per_block()?;
+        let own = self.per_block().filter(|_| self.is_library());
         own.map(|time| time / bare)
     }
 
@@ -135,7 +143,7 @@ impl Measured {
             None => "not installed".to_string(),
         };
         [
-            self.row.job.to_string(),
+            self.row.job.clone(),
             self.row.by(),
             time,
             cell(self.per_block(), 1),

@@ -4,5 +4,8 @@
 //! asks the archive only for the symbols that it uses, so an archive that does not have the later
 //! exports yet still serves the earlier tests.
 
+pub mod bundles;
+pub mod hashes;
 pub mod inputs;
 pub mod permutation;
+pub mod sessions;
