@@ -1,0 +1,7 @@
+pub mod Strings
+pub mod Seal
+pub mod Open
+pub mod RoundTrip
+pub mod Draw
+pub mod Object
+pub mod Outcomes

@@ -1,0 +1,54 @@
+-- The duplex object: what a call gives where its tests refuse it and where they do not, and what they leave a duplexing to know.
+use mathlib.Core.Path.{_≡_, refl}
+use mathlib.Core.List.{List}
+use mathlib.Core.Bool.{Bool, true, false, not, _&&_, _||_, true≢false}
+use mathlib.Core.Logic.{_⊎_, inl, inr, ⊎-elim}
+use Prim.Native.Nat.{ℕ, _≤_, _<_}
+use borrow.Author.Tests.{eqb-true, leb-false, ltb-false, not-false}
+use lib.Dec.{eqb, leb, ltb, lit<, lit≤}
+use lib.ListN.{length, take}
+use Rattle.keccak.specs.Rounds.{f1600}
+use Rattle.sponge.specs.Bytes.{bytes}
+use Rattle.duplex.specs.Duplex.{Rate, duplexing}
+use Rattle.duplex.specs.Object.{bit, refused, seen, settled, duplexes}
+use Rattle.duplex.specs.declared.Duplex.{Duplex}
+
+none-holds : (x y z : Bool) → (x || y || z) ≡ false → (x ≡ false) × (y ≡ false) × (z ≡ false)
+none-holds true y z e = absurd (true≢false e)
+none-holds false true z e = absurd (true≢false e)
+none-holds false false z e = (refl, refl, e)
+
+one-fails : (x y : Bool) → (not x && not y) ≡ false → (x ≡ true) ⊎ (y ≡ true)
+one-fails true y e = inl refl
+one-fails false y e = inr (not-false y e)
+
+pub rate-136 : Rate 136
+rate-136 = record { room = lit< tt; most = lit≤ tt; lanes = refl }
+
+pub rate-168 : Rate 168
+rate-168 = record { room = lit< tt; most = lit≤ tt; lanes = refl }
+
+pub accepted : (R piece out : ℕ) → refused R piece out ≡ false → Rate R × (piece < R) × (out ≤ R)
+unfolding refused
+accepted R piece out e =
+    let h = none-holds (not (eqb R 136) && not (eqb R 168)) (leb R piece) (ltb R out) e in (
+      ⊎-elim (λ t. rw (eqb-true R 136 t) rate-136) (λ t. rw (eqb-true R 168 t) rate-168) (one-fails (eqb R 136) (eqb R 168) (h .0)),
+      leb-false R piece (h .1),
+      ltb-false R out (h .2),
+    )
+
+pub bit-small : (b : Bool) → bit b < 2
+bit-small true = lit< tt
+bit-small false = lit< tt
+
+-- ---- what a call gives
+
+module _ (d : Duplex) (p : List ℕ) (b : Bool) (o : List ℕ) where
+  pub refusing : refused (d .rate) (length p) (length o) ≡ true → seen (record { done = false; duplex = d }) o ≡ duplexes d p b o
+  unfolding duplexes settled
+  refusing e = rw e
+
+  pub doing : (l o′ : List ℕ) → refused (d .rate) (length p) (length o) ≡ false → l ≡ duplexing 64 f1600 (d .rate) (d .lanes) p (bit b)
+      → o′ ≡ take (length o) (bytes 64 l) → seen (record { done = true; duplex = record { lanes = l; rate = d .rate } }) o′ ≡ duplexes d p b o
+  unfolding duplexes settled
+  doing l o′ e h q = rw (e, q, h)

@@ -1,0 +1,54 @@
+-- `Gave` says what is written where the loop stands, over any step from state to state: here the blank duplexing.
+use borrow.Author.Needs.{needs}
+use mathlib.Core.Path.{_≡_, refl}
+use Prim.Native.Nat.{_≤_, _-_}
+use lib.ListN.{length}
+use Rattle.keccak.specs.Rounds.{f1600}
+use Rattle.sponge.proofs.Squeeze.{Gave, gave-none, gave-more, gave-last, gave-state}
+use Rattle.duplex.specs.Duplex.{blank, drawn, after}
+use Rattle.duplex.proofs.drawn_into.Statement.{statement}
+use Rattle.duplex.proofs.drawn_into.Tie as tie
+
+abbrev Inv-loop : tie.InvT-loop
+Inv-loop rate out₀ most st₀ at₀ out st at = (at ≤ length out₀ - 1) × (most ≡ rate - 1) × (length out ≡ length out₀) × Gave 64 (blank 64 f1600 rate) (rate - 1) st₀ out₀ at st out
+
+abbrev μ-loop : tie.MeasureT-loop
+μ-loop rate out₀ most st₀ at₀ out st at = length out₀ - at
+
+loop-holds : tie.Need-loop-holds Inv-loop μ-loop
+loop-holds c = (search needs, search needs, search needs, gave-none _ _ _ _ _)
+
+loop-again : tie.Need-loop-again Inv-loop μ-loop
+loop-again c = (search needs, search needs, search needs, gave-more _ _ _ _ _ _ _ _ _ _ _ (c .before .before .before .before .before .before .loop .inv .3) refl (search needs) (search needs) (c .before .before .before .put-bytes .ensures) (c .blanked .ensures))
+
+returns : tie.Need-returns Inv-loop μ-loop
+unfolding drawn after
+returns c =
+    let l = c .before .before .before .before .before .loop .inv .3 in (
+      gave-state _ _ _ _ _ _ _ _ l (search needs) (search needs) (search needs) (search needs),
+      gave-last _ _ _ _ _ _ _ _ _ l (search needs) (search needs) (search needs) (search needs) (search needs) (c .before .before .put-bytes2 .ensures),
+    )
+
+pub drawn-into-spec : {M : Type 1} → statement M
+drawn-into-spec =
+    tie.close
+    (tie.spec
+    Inv-loop
+    μ-loop
+    (λ c. search needs)
+    loop-holds
+    (λ c. search needs)
+    (λ c. search needs)
+    (λ c. search needs)
+    (λ c. search needs)
+    (λ c. search needs)
+    (λ c κs. search needs)
+    (λ c κs. search needs)
+    (λ c. search needs)
+    loop-again
+    (λ c. search needs)
+    (λ c. search needs)
+    (λ c. search needs)
+    (λ c κs. search needs)
+    (λ c. search needs)
+    returns)

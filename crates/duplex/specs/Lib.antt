@@ -1,0 +1,3 @@
+pub mod Duplex
+pub mod Strings
+pub mod Object

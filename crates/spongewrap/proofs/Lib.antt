@@ -1,0 +1,6 @@
+pub mod Rows
+pub mod Passed
+pub mod Same
+pub mod Settle
+pub mod Theorems
+pub mod Outcomes

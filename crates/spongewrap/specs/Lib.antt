@@ -1,0 +1,3 @@
+pub mod SpongeWrap
+pub mod Refusals
+pub mod Sessions

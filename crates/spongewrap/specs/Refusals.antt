@@ -1,0 +1,70 @@
+-- The refusal numbers, a clause each, and the order of each call's (document 01, "Refusal numbers").
+use Prim.Native.Nat.{ℕ, _+_}
+use mathlib.Core.List.{List, [], _∷_, _++_}
+use mathlib.Core.Bool.{Bool, true, false, not, _&&_, _||_}
+use lib.Dec.{eqb, ltb, leb}
+use Rattle.spongewrap.specs.declared.Session.{Session}
+
+-- the number of the first row whose test holds; 0, accepted, if none does
+unfoldable pub pick : Bool → ℕ → ℕ → ℕ
+pick true n rest = n
+pick false n rest = rest
+
+abbrev pub first : List (Bool × ℕ) → ℕ
+first [] = 0
+first (row ∷ rows) = pick (row .0) (row .1) (first rows)
+
+-- ---- the clauses
+
+-- 1: the rate is not 136 or 168
+abbrev pub badRate : ℕ → Bool
+badRate rate = not (eqb rate 136) && not (eqb rate 168)
+
+-- 2 and 3: a key, or a tag, of under 16 or over 256 bytes
+abbrev pub badSize : ℕ → Bool
+badSize n = ltb n 16 || ltb 256 n
+
+-- 4: a header of over 65,535 bytes
+abbrev pub longHeader : ℕ → Bool
+longHeader n = ltb 65535 n
+
+-- 5: a body of over 1,048,576 bytes
+abbrev pub longBody : ℕ → Bool
+longBody n = ltb 1048576 n
+
+-- 6: a lent output has no room for n bytes
+abbrev pub short : ℕ → ℕ → Bool
+short out n = ltb out n
+
+-- 7: 65,535 pairs or more, or a count over 540,991,427
+abbrev pub full : ℕ → ℕ → Bool
+full pairs calls = leb 65535 pairs || ltb 540991427 calls
+
+-- 8: the tag is not the recomputed one. The same bytes:
+unfoldable pub same : List ℕ → List ℕ → Bool
+same [] [] = true
+same [] (y ∷ ys) = false
+same (x ∷ xs) [] = false
+same (x ∷ xs) (y ∷ ys) = eqb x y && same xs ys
+
+-- ---- the orders, by the lengths of what is handed over
+
+unfoldable pub openRefusal : ℕ → ℕ → ℕ → ℕ
+openRefusal key rate tag = first ((badRate rate, 1) ∷ (badSize key, 2) ∷ (badSize tag, 3) ∷ [])
+
+-- a session's own rows, which every call that seals or opens has first: its rate, its tag length, its pairs and calls
+abbrev pub standing : Bool → Bool → Session → List (Bool × ℕ)
+standing rate tag s = (rate, 1) ∷ (tag, 3) ∷ (full (s .pairs) (s .calls), 7) ∷ []
+
+unfoldable pub wrapRefusal : Session → ℕ → ℕ → ℕ → ℕ
+wrapRefusal s header body out =
+    first
+    (standing (badRate (s .rate)) (badSize (s .tag)) s
+    ++ (longHeader header, 4) ∷ (longBody body, 5) ∷ (short out (body + s .tag), 6) ∷ [])
+
+-- `other`: the tag is another than the recomputed one
+unfoldable pub unwrapRefusal : Session → ℕ → ℕ → ℕ → Bool → ℕ
+unwrapRefusal s header body out other =
+    first
+    (standing (badRate (s .rate)) (badSize (s .tag)) s
+    ++ (longHeader header, 4) ∷ (longBody body, 5) ∷ (short out body, 6) ∷ (other, 8) ∷ [])
