@@ -2,12 +2,12 @@
 use mathlib.Core.Path.{_≡_, refl, sym, ap, _∙_}
 use mathlib.Core.List.{List, [], _∷_, _++_, append-assoc, append-nil}
 use Prim.Native.Nat.{ℕ, zero, suc, _+_, _-_, _*_, _/_, _%_, _^_, _≤_, _<_}
-use native.Mathlib.Nat.{add-zero, add-suc, mul-assoc, add-mul, div-div-eq-div-mul, div-one, pow-succ', pow-suc, one-le-pow, zero-lt-suc}
+use native.Mathlib.Nat.{add-zero, zero-add, add-suc, mul-assoc, add-mul, div-div-eq-div-mul, div-one, pow-succ', pow-suc, one-le-pow, zero-lt-suc}
 use native.Mathlib.Numerals.{add-one}
 use native.Mathlib.Omega.{arith}
 use lib.Arith.{mod-mul}
-use lib.ListN.{length, getD, set, length-append}
-use lib.Seq.{sets, length-sets, getD-set-same, getD-set-other}
+use lib.ListN.{length, getD, set, take, drop, length-append, length-drop, List·getD-append}
+use lib.Seq.{sets, sets-eq, length-sets, getD-set-same, getD-set-other, take-suc, getD-drop, drop-length, getD-append-add}
 use Rattle.fields.specs.Numbers.{numberAt, bytesOf}
 use Rattle.fields.proofs.Stores.{sets-append, sets-more}
 
@@ -78,3 +78,31 @@ number-two b at = rw add-zero (omega arith)
 pub put-two : (b : List ℕ) (at n : ℕ) → n < 65536 → set (set b at (n / 256)) (at + 1) (n % 256) ≡ sets b at (bytesOf 2 n)
 unfolding bytesOf
 put-two b at n h = let e : n / 256 % 256 ≡ n / 256 = omega arith in rw (e, add-one)
+
+-- ---- numbers and bytes are one-to-one
+
+-- the bytes of a number that is read are those that it was read from
+pub bytes-number : (k : ℕ) (b : List ℕ) (at : ℕ) → at + k ≤ length b → ((i : ℕ) → getD b i 0 < 256) → bytesOf k (numberAt k b at) ≡ take k (drop at b)
+unfolding bytesOf numberAt
+bytes-number zero b at h l = refl
+bytes-number (suc k) b at h l =
+    let x : ℕ = getD b (at + k) 0 in
+    let q : (numberAt k b at * 256 + x) / 256 ≡ numberAt k b at = omega (arith, l (at + k)) in
+    let r : (numberAt k b at * 256 + x) % 256 ≡ x = omega (arith, l (at + k)) in
+    let n : k < length (drop at b) = omega (arith, length-drop at b) in
+    rw (q, r, bytes-number k b at (omega arith) l, take-suc (drop at b) k 0 n, getD-drop at b k 0)
+
+-- a number whose bytes stand in a list is read there
+number-within : (k : ℕ) (p x q : List ℕ) → k ≤ length x → numberAt k (p ++ (x ++ q)) (length p) ≡ numberAt k x 0
+unfolding numberAt
+number-within zero p x q h = refl
+number-within (suc k) p x q h =
+    rw (number-within k p x q (omega arith), getD-append-add p (x ++ q) k 0, zero-add, List·getD-append x q 0 k h)
+
+pub number-bytes : (k n : ℕ) (p q : List ℕ) (at : ℕ) → n < 256 ^ k → length p ≡ at → numberAt k (p ++ (bytesOf k n ++ q)) at ≡ n
+number-bytes k n p q at h e =
+    let l : length (bytesOf k n) ≡ k = length-bytesOf k n in
+    let s : sets (bytesOf k n) 0 (bytesOf k n) ≡ bytesOf k n =
+    sets-eq (bytesOf k n) (bytesOf k n) 0 (omega arith)
+    ∙ rw (zero-add, drop-length (bytesOf k n)) (append-nil (bytesOf k n)) in
+    rw (← e) (number-within k p (bytesOf k n) q (omega arith) ∙ (rw s at (number-put k (bytesOf k n) 0 n (omega arith) h)))

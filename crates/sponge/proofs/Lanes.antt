@@ -6,12 +6,13 @@ use native.Mathlib.Nat.{not-suc-le-zero, mul-assoc, mul-comm, mul-suc, mul-le-mu
 use native.Mathlib.Omega.{arith}
 use lib.Arith.{mod-mul}
 use lib.Pow.{pow-pos, pow-add}
-use lib.ListN.{length, getD}
-use lib.Seq.{ext-getD}
+use lib.Bits.{bitXor, xor-zero-l}
+use lib.ListN.{length, getD, take, replicate, getD-replicate}
+use lib.Seq.{ext-getD, getD-take}
 use Rattle.keccak.specs.Lanes.{sum}
 use Rattle.sponge.specs.Table.{table}
-use Rattle.sponge.specs.Bytes.{laneOf, byteOf, bytes}
-use Rattle.sponge.proofs.Table.{length-table, table-at}
+use Rattle.sponge.specs.Bytes.{laneOf, mixed, byteOf, bytes}
+use Rattle.sponge.proofs.Table.{length-table, table-at, table-ext}
 use Rattle.sponge.proofs.Bytes.{byte-at}
 
 -- ---- sums
@@ -94,3 +95,18 @@ module _ (w : ℕ) (room : 0 < w / 8) where
           (λ m n. ap (λ (x : ℕ). x * 2 ^ (8 * m)) (table-at (25 * (w / 8)) (byteOf w a) (w / 8 * j + m) (among j m k n) ∙ sym (byte-at w a j (w / 8 * j + m) m refl n)))
           ∙ digits-sum (getD a j 0) (w / 8)
           ∙ mod-eq-of-lt (h j)
+
+  -- a lane that lies in the first n bytes of a block is theirs
+  pub lane-front : (b : List ℕ) (n j : ℕ) → w / 8 * j + w / 8 ≤ n → laneOf w (take n b) j ≡ laneOf w b j
+  unfolding laneOf
+  lane-front b n j h =
+      sum-ext _ _ (w / 8) (λ m k. ap (λ (x : ℕ). x * 2 ^ (8 * m)) (getD-take n b (w / 8 * j + m) 0 (omega arith)))
+
+  -- a block that is xored into the zero state is read into its lanes
+  pub lanes-read : (b : List ℕ) → mixed w (replicate 25 0) (take (25 * (w / 8)) b) ≡ table 25 (laneOf w b)
+  unfolding mixed
+  lanes-read b =
+      table-ext 25 _ _
+      (λ j k. ap (λ (x : ℕ). bitXor x (laneOf w (take (25 * (w / 8)) b) j)) (getD-replicate 25 j 0 0 k)
+      ∙ xor-zero-l (laneOf w (take (25 * (w / 8)) b) j)
+      ∙ lane-front b (25 * (w / 8)) j (omega (arith, mul-le-mul-left (w / 8) k, mul-suc (w / 8) j, mul-comm (w / 8) 25)))

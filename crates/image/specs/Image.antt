@@ -1,0 +1,22 @@
+-- A session's image of 216 bytes (document 01, "Desk surface"): 200 state bytes in block order, the rate in 2, the tag length
+-- in 2, the pairs in 4 and the count in 8, big-endian.
+use Prim.Native.Nat.{ℕ}
+use mathlib.Core.List.{List, _++_}
+use Rattle.sponge.specs.Table.{table}
+use Rattle.sponge.specs.Bytes.{bytes, laneOf}
+use Rattle.fields.specs.Numbers.{numberAt, bytesOf}
+use Rattle.spongewrap.specs.declared.Session.{Session}
+
+unfoldable pub imageOf : Session → List ℕ
+imageOf s =
+    bytes 64 (s .lanes) ++ (bytesOf 2 (s .rate) ++ (bytesOf 2 (s .tag) ++ (bytesOf 4 (s .pairs) ++ bytesOf 8 (s .calls))))
+
+unfoldable pub sessionOf : List ℕ → Session
+sessionOf b =
+    record {
+      lanes = table 25 (laneOf 64 b);
+      rate = numberAt 2 b 200;
+      tag = numberAt 2 b 202;
+      pairs = numberAt 4 b 204;
+      calls = numberAt 8 b 208;
+    }

@@ -1,0 +1,74 @@
+// Exports for tests and benchmarks, and nothing else: what the desks call is in `desk`.
+// The number for a buffer of another length than is asked for.
+const LENGTH: u8 = 6;
+
+// A state of 200 bytes in block order, permuted where it stands.
+#[no_mangle]
+pub extern "C" fn probe_permute(state: &mut [u8]) -> u8 {
+    probe_permute_times(state, 1)
+}
+
+// The same, many times in one call.
+#[no_mangle]
+pub extern "C" fn probe_permute_times(state: &mut [u8], times: u64) -> u8 {
+    if state.len() != 200 {
+        return LENGTH;
+    }
+    let lanes = sponge::mixed([0u64; 25], &state[..]);
+    let permuted = permuted_times(lanes, times);
+    sponge::put_bytes(permuted, state);
+    0
+}
+
+fn permuted_times(a: [u64; 25], times: u64) -> [u64; 25] {
+    let mut b = a;
+    let mut left = times;
+    while 0 < left {
+        let next = keccak::permuted(b);
+        b = next;
+        left -= 1;
+    }
+    b
+}
+
+#[no_mangle]
+pub extern "C" fn probe_sha3_256(message: &[u8], out: &mut [u8]) -> u8 {
+    if out.len() < 32 {
+        return LENGTH;
+    }
+    let digest = sponge::sha3_256(message);
+    fields::put_string(out, 0, &digest);
+    0
+}
+
+#[no_mangle]
+pub extern "C" fn probe_shake128(message: &[u8], out: &mut [u8]) {
+    sponge::shake128(message, out);
+}
+
+#[no_mangle]
+pub extern "C" fn probe_shake256(message: &[u8], out: &mut [u8]) {
+    sponge::shake256(message, out);
+}
+
+// A session opened into an image, at any rate and tag length.
+#[no_mangle]
+pub extern "C" fn probe_open(rate: u16, tag: u16, key: &[u8], image: &mut [u8]) -> u8 {
+    image::open(key, rate, tag, image)
+}
+
+#[no_mangle]
+pub extern "C" fn probe_wrap(image: &mut [u8], header: &[u8], body: &[u8], out: &mut [u8]) -> u8 {
+    image::wrap(image, header, body, out)
+}
+
+#[no_mangle]
+pub extern "C" fn probe_unwrap(
+    image: &mut [u8],
+    header: &[u8],
+    ciphertext: &[u8],
+    tag: &[u8],
+    body: &mut [u8],
+) -> u8 {
+    image::unwrap(image, header, ciphertext, tag, body)
+}

@@ -1,0 +1,18 @@
+-- The bounds that the contracts cite.
+use Prim.Native.Nat.{ℕ, _+_, _≤_}
+use mathlib.Core.Bool.{Bool, true, false}
+use mathlib.Core.List.{List}
+use lib.ListN.{length}
+
+-- the elements from a up to e are there
+abbrev pub Part : ℕ → ℕ → List ℕ → Type 0
+Part a e l = (a ≤ e) × (e ≤ length l)
+
+-- a Monte Carlo output of n bytes: it has a last two, and 256 hold the longest
+abbrev pub Chain : ℕ → ℕ → ℕ → Type 0
+Chain least n most = (2 ≤ least) × (least ≤ n) × (n ≤ most) × (most ≤ 256)
+
+-- one more where a case agrees
+abbrev pub more : Bool → ℕ → ℕ
+more true n = n + 1
+more false n = n

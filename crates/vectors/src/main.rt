@@ -1,0 +1,68 @@
+// Runs every case of NIST's response files for SHA3-256, SHAKE128 and SHAKE256 through the library, and prints for each file
+// how many cases it has, how many agree, and the first that does not. Then document 01's examples that are run.
+mod chains;
+mod examples;
+mod fields;
+mod hashes;
+mod lines;
+mod messages;
+mod tally;
+
+use hashes::Hash;
+
+// Runs a file of single messages and prints its line.
+fn messages_of(name: &[u8], hash: Hash) {
+    let fd = os::open_read(name);
+    if fd < 0 {
+        tally::print_missing(name);
+        return;
+    }
+    let mut buffer = io::large_buffer();
+    let mut message = io::large_buffer();
+    let tally = messages::run(hash, fd, &mut buffer, &mut message);
+    libc::close(fd);
+    tally::print_tally(name, tally);
+}
+
+// Runs a Monte Carlo file and prints its line.
+fn chains_of(name: &[u8], hash: Hash) {
+    let fd = os::open_read(name);
+    if fd < 0 {
+        tally::print_missing(name);
+        return;
+    }
+    let mut buffer = io::large_buffer();
+    let tally = chains::run(hash, fd, &mut buffer);
+    libc::close(fd);
+    tally::print_tally(name, tally);
+}
+
+// The files of SHA3-256.
+fn sha3_256_files() {
+    messages_of(b"SHA3_256ShortMsg.rsp", Hash::Sha3_256);
+    messages_of(b"SHA3_256LongMsg.rsp", Hash::Sha3_256);
+    chains_of(b"SHA3_256Monte.rsp", Hash::Sha3_256);
+}
+
+// The files of SHAKE128.
+fn shake128_files() {
+    messages_of(b"SHAKE128ShortMsg.rsp", Hash::Shake128);
+    messages_of(b"SHAKE128LongMsg.rsp", Hash::Shake128);
+    messages_of(b"SHAKE128VariableOut.rsp", Hash::Shake128);
+    chains_of(b"SHAKE128Monte.rsp", Hash::Shake128);
+}
+
+// The files of SHAKE256.
+fn shake256_files() {
+    messages_of(b"SHAKE256ShortMsg.rsp", Hash::Shake256);
+    messages_of(b"SHAKE256LongMsg.rsp", Hash::Shake256);
+    messages_of(b"SHAKE256VariableOut.rsp", Hash::Shake256);
+    chains_of(b"SHAKE256Monte.rsp", Hash::Shake256);
+}
+
+fn main() {
+    sha3_256_files();
+    shake128_files();
+    shake256_files();
+    examples::print_all();
+}
