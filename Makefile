@@ -1,15 +1,33 @@
-# The commands of a user: demo, test, lib, bench. `compare` is the part of the gate that comes after the proofs.
+# A user's commands: demo, test, lib, bench. `compare` is the part of the gate that comes after the proofs.
 CARGO = cargo --quiet
-.PHONY: demo test lib bench compare
+DIST = target/dist
+STRICT = -Wall -Wextra -Werror -pedantic -Iinclude
+.PHONY: demo test lib bench compare probe desk
 
 test:
 	bash .ci/run
 
-# The proved library as an archive for C and Rust, target/staticlib/libprobe.a.
+# The exports for tests and benchmarks: target/staticlib/libprobe.a.
 probe:
 	rt staticlib probe
 
-compare: probe
+# What a C program links: the archive, the header and a pkg-config file.
+lib:
+	rt staticlib desk
+	mkdir -p $(DIST)
+	cp target/staticlib/libdesk.a $(DIST)/libfeefledown.a
+	cp include/feefledown.h $(DIST)/
+	sed 's,@DIST@,$(abspath $(DIST)),' include/feefledown.pc.in > $(DIST)/feefledown.pc
+
+# The desk's program as C99 and as C++, run plain, and under valgrind where it is installed.
+desk: lib
+	gcc -std=c99 $(STRICT) c/desk.c $(DIST)/libfeefledown.a -o target/desk
+	g++ -x c++ $(STRICT) c/desk.c -x none $(DIST)/libfeefledown.a -o target/desk-c++
+	./target/desk
+	./target/desk-c++ > target/desk.out
+	if command -v valgrind > target/valgrind.path; then valgrind -q --error-exitcode=1 ./target/desk > target/desk.out; fi
+
+compare: probe desk
 	cd rust && $(CARGO) test --release --offline
 
 bench: probe

@@ -4,3 +4,8 @@ pub mod Same
 pub mod Settle
 pub mod Theorems
 pub mod Outcomes
+pub mod Outputs
+pub mod Histories
+pub mod Examples
+pub mod Duds
+pub mod Held

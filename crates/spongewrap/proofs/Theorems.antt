@@ -177,10 +177,10 @@ module _ (s : Session) (h b o : List ℕ) where
     out-is : wraps s h b o .out ≡ sealing s h b ++ (tagOf s h b ++ drop (length (sealing s h b ++ tagOf s h b)) o)
     out-is = ap (λ (v : Seen). v .out) (wrapped-is s h b o e) ∙ append-assoc (sealing s h b) (tagOf s h b) _
 
-    text-is : text ≡ sealing s h b
+    pub text-is : text ≡ sealing s h b
     text-is = rw out-is (take-at (sealing s h b) _ (length b) (length-sealing s h b (fine .rate)))
 
-    mark-is : mark ≡ tagOf s h b
+    pub mark-is : mark ≡ tagOf s h b
     mark-is =
         rw (out-is, drop-at (sealing s h b) (tagOf s h b ++ drop (length (sealing s h b ++ tagOf s h b)) o) (length b) (length-sealing s h b (fine .rate)))
         (take-at (tagOf s h b) _ (s .tag) (length-tagOf s h b (fine .rate)))

@@ -1,3 +1,4 @@
 pub mod SpongeWrap
 pub mod Refusals
 pub mod Sessions
+pub mod History

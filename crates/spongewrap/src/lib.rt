@@ -1,6 +1,7 @@
 // SpongeWrap sessions: a key opens one, and pairs of a header and a body are sealed and opened in turn.
 // Every call answers a number, 0 or the refusal's, and a session: the advanced one, or the one that it took.
 pub mod refusal; // refusal.rt: the numbers, and the tests of each call in their order
+pub mod running; // running.rt: the session advanced where it stands
 
 ghost use mathlib.Core.Path.{_≡_};
 ghost use mathlib.Core.List.{_++_};

@@ -1,0 +1,248 @@
+-- Demand 3: over any mixture of calls from an opened session, count, lanes and outputs are read off the history.
+use Prim.Native.Nat.{ℕ, zero, suc, _+_, _-_, _*_, _/_, _≤_, _<_}
+use native.Mathlib.Nat.{add-zero, zero-add}
+use native.Mathlib.Omega.{arith}
+use mathlib.Core.Path.{_≡_, refl, sym, ap, _∙_}
+use mathlib.Core.List.{List, [], _∷_, _++_, append-assoc, append-nil}
+use lib.ListN.{length, take, drop, replicate, length-append, length-replicate, length-take}
+use Rattle.keccak.specs.Rounds.{f1600}
+use Rattle.sponge.specs.Pieces.{piece, blocksOf, before}
+use Rattle.sponge.specs.Sponge.{zeros, absorb, sponge}
+use Rattle.sponge.proofs.Padding.{length-padded}
+use Rattle.sponge.proofs.Pieces.{absorb-append}
+use Rattle.duplex.specs.Duplex.{framed, after as drawn-after}
+use Rattle.duplex.specs.Strings.{blocks, front, cut, absorbed}
+use Rattle.duplex.proofs.Strings.{length-cut}
+use Rattle.duplex.proofs.Open.{length-opened}
+use Rattle.duplex.proofs.Draw.{after-blocks}
+use Rattle.spongewrap.specs.SpongeWrap.{keyed, headed, bodied, ciphertext, tagged, left, plaintext}
+use Rattle.spongewrap.specs.Refusals.{openRefusal}
+use Rattle.spongewrap.specs.Sessions.{opened as open-settled, opens, cost, advanced, next, sealing, tagOf, recovered, Seen}
+use Rattle.spongewrap.specs.History.{Call, answered, Pair, pairOf, ifAccepted, after, accepted, blanks, pairBlocks, pairsBlocks, history, pairsCost, Whole, output, Output, Told}
+use Rattle.spongewrap.specs.History.Call.{wrapping, unwrapping}
+use Rattle.spongewrap.specs.declared.Session.{Session}
+use Rattle.spongewrap.proofs.Passed.{open-fits, wrap-fits, unwrap-fits}
+use Rattle.spongewrap.proofs.Outputs.{sealed-piece, opened-piece, drawn-piece}
+use Rattle.spongewrap.proofs.Theorems.{open-number, wrap-number, wrap-kept, unwrap-kept, wrapped-is, unwrapped-is, unwrap-first, accepted-ready, unwrap-accepts-exactly, text-is, mark-is}
+use Rattle.spongewrap.proofs.Settle.{length-tagOf}
+
+-- ---- SpongeWrap where a plain sponge has absorbed the blocks B
+
+more : (w : ℕ) (f : List ℕ → List ℕ) (B C : List (List ℕ)) → absorb w f (sponge w f B) C ≡ sponge w f (B ++ C)
+unfolding sponge
+more w f B C = sym (absorb-append w f zeros B C)
+
+after-is : (w : ℕ) (f : List ℕ → List ℕ) (R : ℕ) (B : List (List ℕ)) (n : ℕ)
+    → drawn-after w f R (sponge w f B) n ≡ sponge w f (B ++ replicate (before (R - 1) n) (framed R 0 []))
+unfolding sponge
+after-is w f R B n = after-blocks w f R zeros B n
+
+module _ (w : ℕ) (f : List ℕ → List ℕ) (R : ℕ) (B : List (List ℕ)) (h : List ℕ) where
+  headed-is : headed w f R (sponge w f B) h ≡ sponge w f (B ++ cut R 0 1 h)
+  unfolding headed absorbed
+  headed-is = more w f B (cut R 0 1 h)
+
+  bodied-is : (b : List ℕ) → bodied w f R (sponge w f B) h b ≡ sponge w f (B ++ cut R 0 1 h ++ cut R 1 0 b)
+  unfolding bodied absorbed
+  bodied-is b = rw (headed-is, more)
+
+  -- the state that a pair leaves
+  left-is : (b : List ℕ) (t : ℕ) → left w f R (sponge w f B) h b t ≡ sponge w f (B ++ (cut R 0 1 h ++ cut R 1 0 b ++ blanks R (blocks R t - 1)))
+  unfolding left blanks blocks
+  left-is b t =
+      let q : suc (before (R - 1) t) - 1 ≡ before (R - 1) t = omega arith in
+      ap (λ (a : List ℕ). drawn-after w f R a t) (bodied-is b)
+      ∙ after-is w f R (B ++ cut R 0 1 h ++ cut R 1 0 b) t
+      ∙ ap (sponge w f) (rw q (simp append-assoc))
+
+  -- the pieces of a pair's ciphertext and tag
+  module _ (b c u : List ℕ) (t : ℕ) (l : R - 1 ≤ 25 * (w / 8)) (v : u ≡ tagged w f R (sponge w f B) h b t) (n : length u ≡ t) where
+    tag-pieces : (k : ℕ) → k < blocks R (length u)
+        → piece (R - 1) u k ≡ take (length (piece (R - 1) u k)) (output w f (B ++ cut R 0 1 h ++ cut R 1 0 b ++ blanks R k))
+    unfolding tagged blanks
+    tag-pieces k j = rw (v, ← more, ← bodied-is b) (drawn-piece w f R (bodied w f R (sponge w f B) h b) t k l (rw n at j))
+
+    wrap-output : c ≡ ciphertext w f R (sponge w f B) h b → Output w f R B (record { header = h; body = b; cipher = c; tag = u })
+    unfolding ciphertext
+    wrap-output e =
+        record {
+          keystream = λ k j. rw (e, ← more, ← headed-is) (sealed-piece w f R (headed w f R (sponge w f B) h) b k j);
+          tag = tag-pieces;
+        }
+
+    unwrap-output : 1 < R → b ≡ plaintext w f R (sponge w f B) h c → Output w f R B (record { header = h; body = b; cipher = c; tag = u })
+    unfolding plaintext
+    unwrap-output r e =
+        let m : length b ≡ length c = ap length e ∙ length-opened w f R (headed w f R (sponge w f B) h) c r in
+        record {
+          keystream = λ k j. rw (e, ← more, ← headed-is) (opened-piece w f R (headed w f R (sponge w f B) h) c k (rw m at j));
+          tag = tag-pieces;
+        }
+
+-- ---- how many blocks, and how long
+
+length-pair : (R t : ℕ) (p : Pair) → length (pairBlocks R t p) ≡ cost R t (length (p .header)) (length (p .body))
+unfolding pairBlocks blanks cost
+length-pair R t p =
+    length-append (cut R 0 1 (p .header) ++ cut R 1 0 (p .body)) (replicate (blocks R t - 1) (framed R 0 []))
+    ∙ omega (arith, length-append (cut R 0 1 (p .header)) (cut R 1 0 (p .body)), length-cut R 0 1 (p .header), length-cut R 1 0 (p .body), length-replicate (blocks R t - 1) (framed R 0 []))
+
+length-pairs : (R t : ℕ) (ps : List Pair) → length (pairsBlocks R t ps) ≡ pairsCost R t ps
+unfolding pairsBlocks pairsCost
+length-pairs R t [] = refl
+length-pairs R t (p ∷ ps) = rw (length-append, length-pair, length-pairs R t ps)
+
+whole-append : (R : ℕ) (A B : List (List ℕ)) → Whole R A → Whole R B → Whole R (A ++ B)
+unfolding Whole
+whole-append R [] B u v = v
+whole-append R (a ∷ A) B u v = (u .0, whole-append R A B (u .1) v)
+
+module _ (R : ℕ) (r : 1 < R) where
+  whole-framed : (b : ℕ) (p : List ℕ) → length p ≤ R - 1 → Whole R (framed R b p ∷ [])
+  unfolding Whole framed
+  whole-framed b p l = (length-padded R (2 + b) p (omega arith), tt)
+
+  length-piece : (s : List ℕ) (k : ℕ) → length (piece (R - 1) s k) ≤ R - 1
+  unfolding piece
+  length-piece s k = omega (arith, length-take (R - 1) (drop (k * (R - 1)) s))
+
+  whole-front : (b : ℕ) (s : List ℕ) (k : ℕ) → Whole R (front R b s k)
+  unfolding front blocksOf
+  whole-front b s zero = unfold Whole in tt
+  whole-front b s (suc k) = whole-append R _ _ (whole-front b s k) (whole-framed b (piece (R - 1) s k) (length-piece s k))
+
+  whole-cut : (mid last : ℕ) (s : List ℕ) → Whole R (cut R mid last s)
+  unfolding cut
+  whole-cut mid last s = whole-append R _ _ (whole-front mid s _) (whole-framed last _ (length-piece s _))
+
+  whole-blanks : (k : ℕ) → Whole R (blanks R k)
+  unfolding blanks Whole
+  whole-blanks zero = tt
+  whole-blanks (suc k) = (whole-framed 0 [] (omega arith) .0, whole-blanks k)
+
+  whole-pairs : (t : ℕ) (ps : List Pair) → Whole R (pairsBlocks R t ps)
+  unfolding pairsBlocks pairBlocks
+  whole-pairs t [] = unfold Whole in tt
+  whole-pairs t (p ∷ ps) =
+      whole-append R _ _ (whole-append R _ _ (whole-append R _ _ (whole-cut 0 1 (p .header)) (whole-cut 1 0 (p .body))) (whole-blanks _)) (whole-pairs t ps)
+
+-- ---- a session that stands where the blocks B have been absorbed and n pairs accepted
+
+record Agrees (R t : ℕ) (B : List (List ℕ)) (n : ℕ) (s : Session) : Type 0 where
+  rate : s .rate ≡ R
+  tag : s .tag ≡ t
+  pairs : s .pairs ≡ n
+  calls : s .calls ≡ length B
+  lanes : s .lanes ≡ sponge 64 f1600 B
+
+module _ (R t : ℕ) (B : List (List ℕ)) (n : ℕ) (s : Session) (a : Agrees R t B n s) where
+  next-agrees : (p : Pair) → Agrees R t (B ++ pairBlocks R t p) (n + 1) (next s (p .header) (p .body))
+  unfolding next advanced
+  next-agrees p =
+      record {
+        rate = a .rate;
+        tag = a .tag;
+        pairs = ap (λ (x : ℕ). x + 1) (a .pairs);
+        calls = rw (a .rate, a .tag, a .calls, length-append, length-pair);
+        lanes = rw (a .rate, a .tag, a .lanes) (unfold pairBlocks in left-is 64 f1600 R B (p .header) (p .body) t);
+      }
+
+  -- a call that is refused, and one that is accepted
+  call-kept : (c : Call) → (answered s c .answer .number ≡ 0 → ⊥) → answered s c .answer .session ≡ s
+  unfolding answered
+  call-kept (wrapping h b o) d = wrap-kept s h b o d .session
+  call-kept (unwrapping h c u o) d = unwrap-kept s h c u o d .session
+
+  call-agrees : (c : Call) → answered s c .answer .number ≡ 0 → Agrees R t (B ++ pairBlocks R t (pairOf s c)) (n + 1) (answered s c .answer .session)
+  unfolding answered pairOf
+  call-agrees (wrapping h b o) e = rw (ap (λ (v : Seen). v .answer .session) (wrapped-is s h b o e)) (next-agrees _)
+  call-agrees (unwrapping h c u o) e =
+      rw (ap (λ (v : Seen). v .answer .session) (unwrapped-is s h c u o e), unwrap-first s h c u o e .first) (next-agrees _)
+
+  -- the session's strings are those of the sponge
+  sealing-is : (h b : List ℕ) → sealing s h b ≡ ciphertext 64 f1600 R (sponge 64 f1600 B) h b
+  unfolding sealing
+  sealing-is h b = rw (a .rate, a .lanes)
+
+  tagOf-is : (h b : List ℕ) → tagOf s h b ≡ tagged 64 f1600 R (sponge 64 f1600 B) h b t
+  unfolding tagOf
+  tagOf-is h b = rw (a .rate, a .lanes, a .tag)
+
+  recovered-is : (h c : List ℕ) → recovered s h c ≡ plaintext 64 f1600 R (sponge 64 f1600 B) h c
+  unfolding recovered
+  recovered-is h c = rw (a .rate, a .lanes)
+
+  call-output : (c : Call) → answered s c .answer .number ≡ 0 → Output 64 f1600 R B (pairOf s c)
+  unfolding answered pairOf
+  call-output (wrapping h b o) e =
+      let r = wrap-fits s (length h) (length b) (length o) (sym (wrap-number s h b o) ∙ e) .0 .rate in
+      wrap-output 64 f1600 R B h b _ _ t (omega (arith, a .rate, r .most)) (mark-is s h b o e ∙ tagOf-is h b)
+      (ap length (mark-is s h b o e) ∙ length-tagOf s h b r ∙ a .tag) (text-is s h b o e ∙ sealing-is h b)
+  call-output (unwrapping h c u o) e =
+      let y = accepted-ready s h c u o e in
+      let r = unwrap-fits s (length h) (length c) (length o) y .0 .rate in
+      let v = unwrap-accepts-exactly s h c u o y .0 e in
+      rw (unwrap-first s h c u o e .first)
+      (unwrap-output 64 f1600 R B h (recovered s h c) c u t (omega (arith, a .rate, r .most)) (v ∙ tagOf-is h (recovered s h c))
+      (ap length v ∙ length-tagOf s h (recovered s h c) r ∙ a .tag) (omega (arith, a .rate, r .room)) (recovered-is h c))
+
+-- ---- a run of calls
+
+-- each pair's output, at its point
+Outputs : ℕ → ℕ → List (List ℕ) → List Pair → Type 0
+Outputs R t B [] = Unit {0}
+Outputs R t B (p ∷ ps) = Output 64 f1600 R B p × Outputs R t (B ++ pairBlocks R t p) ps
+
+-- what holds where the pairs ps have been accepted since, and the session is s
+abbrev Ran : ℕ → ℕ → List (List ℕ) → ℕ → List Pair → Session → Type 0
+Ran R t B n ps s = Agrees R t (B ++ pairsBlocks R t ps) (n + length ps) s × Outputs R t B ps
+
+run : (R t : ℕ) (B : List (List ℕ)) (n : ℕ) (s : Session) → Agrees R t B n s → (cs : List Call) → Ran R t B n (accepted s cs) (after s cs)
+unfolding accepted ifAccepted after pairsBlocks Outputs
+run R t B n s a [] = (rw (append-nil, add-zero) a, tt)
+run R t B n s a (c ∷ cs) = go (λ C m. λ g. run R t C m s′ g cs) (answered s c .answer .number) refl
+  where
+    s′ : Session
+    s′ = answered s c .answer .session
+
+    go : ((C : List (List ℕ)) (m : ℕ) → Agrees R t C m s′ → Ran R t C m (accepted s′ cs) (after s′ cs))
+        → (m : ℕ) → answered s c .answer .number ≡ m → Ran R t B n (ifAccepted m (pairOf s c) ++ accepted s′ cs) (after s′ cs)
+    go on zero e =
+        let i = on (B ++ pairBlocks R t (pairOf s c)) (n + 1) (call-agrees R t B n s a c e) in
+        let k : n + suc (length (accepted s′ cs)) ≡ n + 1 + length (accepted s′ cs) = omega arith in
+        (rw (← append-assoc, k) (i .0), (call-output R t B n s a c e, i .1))
+    go on (suc m) e = on B n (rw (call-kept R t B n s a c (λ z. omega arith)) a)
+
+-- the pair p among others
+among : (R t : ℕ) (B : List (List ℕ)) (before rest : List Pair) (p : Pair) → Outputs R t B (before ++ p ∷ rest) → Output 64 f1600 R (B ++ pairsBlocks R t before) p
+unfolding Outputs pairsBlocks
+among R t B [] rest p o = rw append-nil (o .0)
+among R t B (q ∷ before) rest p o = rw (← append-assoc) (among R t (B ++ pairBlocks R t q) before rest p (o .1))
+
+opened-agrees : (key : List ℕ) (R t m : ℕ) → open-settled m R t key .number ≡ 0 → Agrees R t (cut R 1 0 key) 0 (open-settled m R t key .session)
+unfolding open-settled keyed absorbed
+opened-agrees key R t zero e =
+    record { rate = refl; tag = refl; pairs = refl; calls = sym (length-cut R 1 0 key); lanes = unfold sponge in refl }
+opened-agrees key R t (suc m) e = absurd (omega arith)
+
+-- Demand 3. Whatever calls are made from an opened session, each given the session that the last one handed back: its count is the
+-- blocks of the key and of each accepted header and body and the extra blocks of tags; exactly that many padded blocks, read off the
+-- history and absorbed by one plain sponge, leave its lanes; and every keystream piece and tag piece is that sponge's output at its point.
+pub history-tells : (key : List ℕ) (R t : ℕ) (cs : List Call) → opens key R t .number ≡ 0
+    → Told R t key (accepted (opens key R t .session) cs) (after (opens key R t .session) cs)
+unfolding history
+history-tells key R t cs e =
+    let s = opens key R t .session in
+    let ps = accepted s cs in
+    let a = run R t (cut R 1 0 key) 0 s (unfold opens in opened-agrees key R t (openRefusal (length key) R t) e) cs in
+    let r = open-fits (length key) R t (sym (open-number key R t) ∙ e) .rates in
+    let n : length (history R t key ps) ≡ blocks R (length key) + pairsCost R t ps =
+    length-append (cut R 1 0 key) (pairsBlocks R t ps) ∙ rw (length-cut, length-pairs) in
+    record {
+      pairs = a .0 .pairs ∙ zero-add (length ps);
+      count = a .0 .calls ∙ n;
+      blocks-number = sym (a .0 .calls);
+      blocks-whole = whole-append R _ _ (whole-cut R (r .room) 1 0 key) (whole-pairs R (r .room) t ps);
+      state = a .0 .lanes;
+      outputs = λ before rest p q. among R t (cut R 1 0 key) before rest p (rw q at (a .1));
+    }

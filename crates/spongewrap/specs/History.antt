@@ -1,0 +1,111 @@
+-- Histories: any mixture of calls from an opened session, the pairs that were accepted, the padded blocks that these come to,
+-- and one plain sponge over those blocks (demand 3; document 01, "SpongeWrap").
+use Prim.Native.Nat.{ℕ, zero, suc, _+_, _-_, _<_}
+use mathlib.Core.Path.{_≡_}
+use mathlib.Core.List.{List, [], _∷_, _++_}
+use lib.ListN.{length, take, drop, replicate}
+use Rattle.keccak.specs.Rounds.{f1600}
+use Rattle.sponge.specs.Bytes.{bytes}
+use Rattle.sponge.specs.Pieces.{piece}
+use Rattle.sponge.specs.Sponge.{sponge}
+use Rattle.duplex.specs.Duplex.{framed}
+use Rattle.duplex.specs.Strings.{blocks, front, cut, xored}
+use Rattle.spongewrap.specs.Sessions.{cost, Seen, wraps, unwraps}
+use Rattle.spongewrap.specs.declared.Session.{Session}
+
+-- ---- the calls
+
+pub data Call : Type 0 where
+  wrapping : (header body out : List ℕ) → Call
+  unwrapping : (header cipher tag out : List ℕ) → Call
+
+unfoldable pub answered : Session → Call → Seen
+answered s (wrapping h b o) = wraps s h b o
+answered s (unwrapping h c t o) = unwraps s h c t o
+
+-- a pair as it went over: the body is the plaintext
+pub record Pair : Type 0 where
+  pub header : List ℕ
+  pub body : List ℕ
+  pub cipher : List ℕ
+  pub tag : List ℕ
+
+-- what a call on the session s was handed and, at the front of its output, what it gave
+unfoldable pub pairOf : Session → Call → Pair
+pairOf s (wrapping h b o) =
+    record {
+      header = h;
+      body = b;
+      cipher = take (length b) (wraps s h b o .out);
+      tag = take (s .tag) (drop (length b) (wraps s h b o .out));
+    }
+pairOf s (unwrapping h c t o) = record { header = h; body = take (length c) (unwraps s h c t o .out); cipher = c; tag = t }
+
+unfoldable pub ifAccepted : ℕ → Pair → List Pair
+ifAccepted zero p = p ∷ []
+ifAccepted (suc n) p = []
+
+-- ---- a run of calls, each given the session that the last one handed back
+
+unfoldable pub after : Session → List Call → Session
+after s [] = s
+after s (c ∷ cs) = after (answered s c .answer .session) cs
+
+-- the pairs that were accepted
+unfoldable pub accepted : Session → List Call → List Pair
+accepted s [] = []
+accepted s (c ∷ cs) = ifAccepted (answered s c .answer .number) (pairOf s c) ++ accepted (answered s c .answer .session) cs
+
+-- ---- the padded blocks of a key and of pairs with tags of t bytes
+
+unfoldable pub blanks : ℕ → ℕ → List (List ℕ)
+blanks R k = replicate k (framed R 0 [])
+
+-- a header's, a body's, and those that a tag takes past its first
+unfoldable pub pairBlocks : ℕ → ℕ → Pair → List (List ℕ)
+pairBlocks R t p = cut R 0 1 (p .header) ++ cut R 1 0 (p .body) ++ blanks R (blocks R t - 1)
+
+unfoldable pub pairsBlocks : ℕ → ℕ → List Pair → List (List ℕ)
+pairsBlocks R t [] = []
+pairsBlocks R t (p ∷ ps) = pairBlocks R t p ++ pairsBlocks R t ps
+
+unfoldable pub history : ℕ → ℕ → List ℕ → List Pair → List (List ℕ)
+history R t key ps = cut R 1 0 key ++ pairsBlocks R t ps
+
+-- how many they are, by the lengths of the strings
+unfoldable pub pairsCost : ℕ → ℕ → List Pair → ℕ
+pairsCost R t [] = 0
+pairsCost R t (p ∷ ps) = cost R t (length (p .header)) (length (p .body)) + pairsCost R t ps
+
+-- every block has R bytes
+unfoldable pub Whole : ℕ → List (List ℕ) → Type 0
+Whole R [] = Unit {0}
+Whole R (b ∷ B) = (length b ≡ R) × Whole R B
+
+-- ---- what went over in a pair, where the plain sponge had absorbed the blocks B
+
+-- the sponge's output at a point
+abbrev pub output : ℕ → (List ℕ → List ℕ) → List (List ℕ) → List ℕ
+output w f B = bytes w (sponge w f B)
+
+pub record Output (w : ℕ) (f : List ℕ → List ℕ) (R : ℕ) (B : List (List ℕ)) (p : Pair) : Type 0 where
+  -- each keystream piece, which turns a piece of the body into one of the ciphertext, is the output at its point
+  pub keystream : (k : ℕ) → k < blocks R (length (p .body))
+      → piece (R - 1) (p .cipher) k ≡ xored (piece (R - 1) (p .body) k) (output w f (B ++ cut R 0 1 (p .header) ++ front R 1 (p .body) k))
+  -- each tag piece is the first bytes of the output at its point
+  pub tag : (k : ℕ) → k < blocks R (length (p .tag))
+      → piece (R - 1) (p .tag) k ≡ take (length (piece (R - 1) (p .tag) k)) (output w f (B ++ cut R 0 1 (p .header) ++ cut R 1 0 (p .body) ++ blanks R k))
+
+-- ---- demand 3, of a session that stands where a key was absorbed and the pairs ps were accepted
+
+pub record Told (R t : ℕ) (key : List ℕ) (ps : List Pair) (s : Session) : Type 0 where
+  pub pairs : s .pairs ≡ length ps
+  -- the count is the blocks of the key and of each accepted pair
+  pub count : s .calls ≡ blocks R (length key) + pairsCost R t ps
+  -- exactly that many padded blocks of R bytes are read off the history
+  pub blocks-number : length (history R t key ps) ≡ s .calls
+  pub blocks-whole : Whole R (history R t key ps)
+  -- absorbed by the plain sponge they leave the session's lanes
+  pub state : s .lanes ≡ sponge 64 f1600 (history R t key ps)
+  -- whatever went over in any of the pairs is that sponge's output, after the blocks of the pairs before it
+  pub outputs : (before rest : List Pair) (p : Pair) → ps ≡ before ++ p ∷ rest → Output 64 f1600 R (history R t key before) p
