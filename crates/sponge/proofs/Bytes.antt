@@ -13,7 +13,7 @@ use Rattle.sponge.proofs.Table.{done-early}
 
 -- ---- from bytes to lanes
 
-sum-zero : (f : ℕ → ℕ) (n : ℕ) → ((m : ℕ) → f m ≡ 0) → sum f n ≡ 0
+pub sum-zero : (f : ℕ → ℕ) (n : ℕ) → ((m : ℕ) → f m ≡ 0) → sum f n ≡ 0
 sum-zero f zero h = refl
 sum-zero f (suc n) h = omega (arith, sum-zero f n h, h n)
 

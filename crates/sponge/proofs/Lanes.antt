@@ -17,7 +17,7 @@ use Rattle.sponge.proofs.Bytes.{byte-at}
 
 -- ---- sums
 
-sum-ext : (f g : ℕ → ℕ) (k : ℕ) → ((m : ℕ) → m < k → f m ≡ g m) → sum f k ≡ sum g k
+pub sum-ext : (f g : ℕ → ℕ) (k : ℕ) → ((m : ℕ) → m < k → f m ≡ g m) → sum f k ≡ sum g k
 sum-ext f g zero h = refl
 sum-ext f g (suc k) h = ap₂ (λ (x y : ℕ). x + y) (sum-ext f g k (λ m l. h m (omega arith))) (h k (omega arith))
 
@@ -39,7 +39,7 @@ digits-sum x (suc k) =
     rw (place-suc k, mul-comm (2 ^ (8 * k)) 256, e) (omega (arith, digits-sum x k))
 
 -- a number by its lowest digit
-low-digit : (d : ℕ → ℕ) (k : ℕ) → sum (λ m. d m * 2 ^ (8 * m)) (suc k) ≡ d 0 + 256 * sum (λ m. d (suc m) * 2 ^ (8 * m)) k
+pub low-digit : (d : ℕ → ℕ) (k : ℕ) → sum (λ m. d m * 2 ^ (8 * m)) (suc k) ≡ d 0 + 256 * sum (λ m. d (suc m) * 2 ^ (8 * m)) k
 low-digit d zero = omega arith
 low-digit d (suc k) =
     let e : d (suc k) * 2 ^ (8 * suc k) ≡ d (suc k) * 2 ^ (8 * k) * 256 =

@@ -6,3 +6,4 @@ pub mod Squeeze
 pub mod Outcomes
 pub mod PadBits
 pub mod Lanes
+pub mod Taken

@@ -1,8 +1,8 @@
 // The sponge over Keccak-f[1600]: blocks of bytes go in, bytes come out; and the hashes of FIPS 202.
 ghost use mathlib.Core.Path.{_≡_};
-ghost use mathlib.Core.List.{_++_};
-ghost use Prim.Native.Nat.{_+_, _*_, _-_, _%_, _^_, _<_, _≤_};
-ghost use lib.ListN.{length, take, replicate};
+ghost use mathlib.Core.List.{[], _∷_, _++_};
+ghost use Prim.Native.Nat.{_+_, _*_, _/_, _%_, _^_, _<_, _≤_};
+ghost use lib.ListN.{length, take};
 ghost use Rattle.keccak.specs.Rounds.{f1600};
 ghost use Rattle.sponge.specs.Bytes.{laneOf, mixed, bytes};
 ghost use Rattle.sponge.specs.Padding.{padded};
@@ -61,21 +61,37 @@ pub fn absorbed_block(a: [u64; 25], b: &[u8]) -> [u64; 25]
     keccak::permuted(mixed(a, b))
 }
 
-// A piece padded to a block of `rate` bytes, in the front of 200.
-fn block(piece: &[u8], suffix: u8, rate: usize) -> [u8; 200]
-    requires { ⌜ (length (now piece) < rate) × (rate ≤ 200) × (suffix < 128) ⌝ }
-    ensures { λ r. ⌜ r ≡ padded rate suffix (now (piece .entry)) ++ replicate (200 - rate) 0 ⌝ }
+// What is left of a piece after its whole lanes, and the byte `suffix` after that, as a lane.
+fn rest_of(piece: &[u8], suffix: u8) -> u64
+    requires { ⌜ suffix < 128 ⌝ }
+    ensures { λ r. ⌜ (r ≡ laneOf 64 (now (piece .entry) ++ (suffix ∷ [])) (length (now (piece .entry)) / 8)) × (r < 2 ^ 63) ⌝ }
 {
-    let mut b = [0u8; 200];
-    let mut i = 0;
-    while i < piece.len() {
-        b[i] = piece[i];
-        i += 1;
+    let first = piece.len() / 8 * 8;
+    let mut i = piece.len();
+    let mut x = suffix as u64;
+    while first < i {
+        i -= 1;
+        x = x * 0x100 + piece[i] as u64;
     }
-    b[i] = suffix;
-    let last = rate - 1;
-    b[last] = b[last] + 128;
-    b
+    x
+}
+
+// A piece padded to a block of `rate` bytes and xored into the first lanes of a state.
+fn mixed_piece(a: [u64; 25], piece: &[u8], suffix: u8, rate: usize) -> [u64; 25]
+    requires { ⌜ (length (now piece) < rate) × (rate ≤ 200) × (rate % 8 ≡ 0) × (suffix < 128) ⌝ }
+    ensures { λ r. ⌜ r ≡ mixed 64 a (padded rate suffix (now (piece .entry))) ⌝ }
+{
+    let k = piece.len() / 8;
+    let mut r = a;
+    let mut j = 0;
+    while j < k {
+        r[j] = r[j] ^ lane_of(piece, j);
+        j += 1;
+    }
+    r[k] = r[k] ^ rest_of(piece, suffix);
+    let last = rate / 8 - 1;
+    r[last] = r[last] ^ 0x8000_0000_0000_0000;
+    r
 }
 
 // A piece padded and absorbed.
@@ -83,8 +99,7 @@ pub fn absorbed_piece(a: [u64; 25], piece: &[u8], suffix: u8, rate: usize) -> [u
     requires { ⌜ (length (now piece) < rate) × (rate ≤ 200) × (rate % 8 ≡ 0) × (suffix < 128) ⌝ }
     ensures { λ r. ⌜ r ≡ absorbBlock 64 f1600 a (padded rate suffix (now (piece .entry))) ⌝ }
 {
-    let b = block(piece, suffix, rate);
-    absorbed_block(a, &b[..rate])
+    keccak::permuted(mixed_piece(a, piece, suffix, rate))
 }
 
 // A whole message absorbed from the zero state: its whole blocks as they are, and the rest padded.
