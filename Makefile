@@ -1,8 +1,9 @@
-# A user's commands: demo, test, lib, bench. `compare` is the part of the gate that comes after the proofs.
+# A user's commands: demo, test, lib, bench, soak. `compare` is the part of the gate that comes after the proofs.
 CARGO = cargo --quiet
+SECONDS = 60
 DIST = target/dist
 STRICT = -Wall -Wextra -Werror -pedantic -Iinclude
-.PHONY: demo test lib bench compare probe desk
+.PHONY: demo test lib bench soak compare probe desk
 
 test:
 	bash .ci/run
@@ -32,3 +33,7 @@ compare: probe desk
 
 bench: probe
 	cd rust && $(CARGO) run --release --offline --package bench
+
+# Every export with arbitrary bytes beside the reference: make soak SECONDS=600.
+soak: probe lib
+	cd rust && $(CARGO) run --release --offline --package soak -- $(SECONDS)

@@ -1,28 +1,3 @@
-//! Links libprobe.a from the folder that FEEFLEDOWN_STATICLIB names, else from target/staticlib.
-
-use std::env;
-use std::path::{Path, PathBuf};
-
-/// The folder that the toolchain writes static libraries to, unless another is named.
-fn folder() -> PathBuf {
-    match env::var_os("FEEFLEDOWN_STATICLIB") {
-        Some(named) => PathBuf::from(named),
-        None => {
-            Path::new(&env::var_os("CARGO_MANIFEST_DIR").unwrap()).join("../../target/staticlib")
-        }
-    }
-}
-
 fn main() {
-    let folder = folder();
-    let archive = folder.join("libprobe.a");
-    assert!(
-        archive.exists(),
-        "{} is missing: build it, or name its folder in FEEFLEDOWN_STATICLIB",
-        archive.display()
-    );
-    println!("cargo:rerun-if-env-changed=FEEFLEDOWN_STATICLIB");
-    println!("cargo:rerun-if-changed={}", archive.display());
-    println!("cargo:rustc-link-search=native={}", folder.display());
-    println!("cargo:rustc-link-lib=static=probe");
+    archive::link("probe");
 }

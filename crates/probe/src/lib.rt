@@ -1,4 +1,8 @@
 // Exports for tests and benchmarks, and nothing else: what the desks call is in `desk`.
+ghost use mathlib.Core.Path.{_≡_};
+ghost use lib.ListN.{length};
+use bundle::Surveyed;
+
 // The number for a buffer of another length than is asked for.
 const LENGTH: u8 = 6;
 
@@ -71,4 +75,71 @@ pub extern "C" fn probe_unwrap(
     body: &mut [u8],
 ) -> u8 {
     image::unwrap(image, header, ciphertext, tag, body)
+}
+
+// An answer with its place in one number: the place stands above the low byte, less what does not fit there.
+fn told(number: u8, place: usize) -> u64 {
+    number as u64 + place as u64 % 0x0100_0000_0000_0000 * 0x100
+}
+
+#[no_mangle]
+pub extern "C" fn probe_survey(bundle: &[u8]) -> u64 {
+    let answer = bundle::survey(bundle);
+    match answer {
+        Surveyed::Entries(count) => told(0, count),
+        Surveyed::Refused { number, place } => told(number, place),
+    }
+}
+
+// A bundle's answer: on success the image holds the new session.
+fn settled(answer: bundle::Answer, image: &mut [u8]) -> u64
+    requires { ⌜ length (now image) ≡ 216 ⌝ }
+{
+    let number = answer.number;
+    if number != 0 {
+        return told(number, answer.place);
+    }
+    let session = answer.session;
+    image::put_session(session, image);
+    told(0, answer.place)
+}
+
+#[no_mangle]
+pub extern "C" fn probe_open_entry(
+    image: &mut [u8],
+    bundle: &[u8],
+    place: u64,
+    body: &mut [u8],
+) -> u64 {
+    if image.len() != 216 {
+        return told(LENGTH, 0);
+    }
+    let session = image::session_of(&image[..]);
+    settled(
+        bundle::open_entry(session, bundle, place as usize, body),
+        image,
+    )
+}
+
+#[no_mangle]
+pub extern "C" fn probe_start(image: &mut [u8], label: &[u8], bundle: &mut [u8]) -> u64 {
+    if image.len() != 216 {
+        return told(LENGTH, 0);
+    }
+    let session = image::session_of(&image[..]);
+    settled(bundle::start(session, label, bundle), image)
+}
+
+#[no_mangle]
+pub extern "C" fn probe_add(
+    image: &mut [u8],
+    header: &[u8],
+    body: &[u8],
+    bundle: &mut [u8],
+) -> u64 {
+    if image.len() != 216 {
+        return told(LENGTH, 0);
+    }
+    let session = image::session_of(&image[..]);
+    settled(bundle::add(session, header, body, bundle), image)
 }

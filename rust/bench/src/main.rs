@@ -3,16 +3,13 @@
 //! `bench` prints both tables. `bench --count MAKER RUNS` makes that many runs of one maker's
 //! permutation and prints nothing: the second table starts it under callgrind.
 
-#[cfg(feature = "sessions")]
+mod bundles;
 mod ciphers;
 mod counting;
-#[cfg(feature = "hashes")]
 mod hashes;
-#[cfg(feature = "hashes")]
 mod messages;
 mod openssl;
 mod permutation;
-#[cfg(feature = "sessions")]
 mod sessions;
 mod table;
 
@@ -22,12 +19,10 @@ use table::Row;
 fn rows() -> Vec<Row> {
     [
         permutation::rows(),
-        #[cfg(feature = "hashes")]
         hashes::rows(),
-        #[cfg(feature = "sessions")]
         sessions::rows(),
-        #[cfg(feature = "sessions")]
         ciphers::rows(),
+        bundles::rows(),
     ]
     .into_iter()
     .flatten()

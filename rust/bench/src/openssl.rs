@@ -38,7 +38,6 @@ pub type New = unsafe extern "C" fn() -> Object;
 type Finish = unsafe extern "C" fn(Object, *mut u8, *mut u32) -> c_int;
 
 /// Ends a message and writes as many bytes as asked.
-#[cfg(feature = "hashes")]
 type FinishLong = unsafe extern "C" fn(Object, *mut u8, usize) -> c_int;
 
 /// One of the two ways to end a message, with 32 bytes of output.
@@ -65,7 +64,6 @@ impl Digest {
     }
 
     /// SHAKE128, if OpenSSL is installed.
-    #[cfg(feature = "hashes")]
     pub fn shake128() -> Option<Digest> {
         // SAFETY: the type is that of the manual page, and 32 bytes are asked for.
         let finish: FinishLong = unsafe { function(c"EVP_DigestFinalXOF")? };

@@ -48,7 +48,7 @@ fn unwrap_library(rate: u16, size: usize) -> Row {
 }
 
 /// A session of that rate, fresh from open.
-fn opened(rate: u16) -> Image {
+pub fn opened(rate: u16) -> Image {
     let mut image = [0; 216];
     assert_eq!(open(rate, TAG as u16, &[0x43; 32], &mut image), 0);
     image

@@ -1,4 +1,4 @@
-//! The exports of libprobe.a as safe functions, and what the tests over them share.
+//! The exports of libprobe.a as safe functions.
 //!
 //! Each stage of the library has its own module, and every function there is `inline`: a program
 //! asks the archive only for the symbols that it uses, so an archive that does not have the later
@@ -6,6 +6,5 @@
 
 pub mod bundles;
 pub mod hashes;
-pub mod inputs;
 pub mod permutation;
 pub mod sessions;

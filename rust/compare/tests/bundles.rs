@@ -3,26 +3,10 @@
 //! An answer carries a place times 256, so places here stay under 2^56.
 
 use compare::bundles::{add, open_entry, start, survey};
-use compare::inputs::{agreed, reading, seen, Random};
-use reference::bundle::{self, Refused};
-use reference::desk::on_image;
+use inputs::bundles::{self, bundle_of, entry, refused, Seen};
+use inputs::random::Random;
+use reference::bundle;
 use reference::spongewrap::Session;
-
-/// What both sides leave of a call.
-type Seen = compare::inputs::Seen<u64>;
-
-/// An answer of the reference in the form that the library gives it.
-fn coded(answer: Result<u64, Refused>) -> u64 {
-    match answer {
-        Ok(value) => 256 * value,
-        Err(refusal) => refused(refusal.number.into(), refusal.place),
-    }
-}
-
-/// The answer that refuses by a number at a place.
-fn refused(number: u64, place: u64) -> u64 {
-    number + 256 * place
-}
 
 /// The refusal's number in an answer, 0 if there is none.
 fn number(answer: u64) -> u64 {
@@ -31,72 +15,27 @@ fn number(answer: u64) -> u64 {
 
 /// Surveys a bundle by both.
 fn surveyed(bundle: &[u8]) -> u64 {
-    let answer = reading([bundle], |[bundle]| survey(bundle));
-    assert_eq!(answer, coded(bundle::survey(bundle)));
-    answer
+    bundles::surveyed(survey, bundle)
 }
 
 /// Opens the entry at a place by both into a buffer that holds `room` before.
 fn opened(image: &[u8], bundle: &[u8], place: u64, room: &[u8]) -> Seen {
-    let library = seen(image, room, |image, body| {
-        reading([bundle], |[bundle]| open_entry(image, bundle, place, body))
-    });
-    let reference = seen(image, room, |image, body| {
-        coded(on_image(image, |session| {
-            bundle::open_entry(session, bundle, place, body)
-        }))
-    });
-    agreed(library, reference)
+    bundles::opened(open_entry, image, bundle, place, room)
 }
 
 /// Starts a bundle by both in a buffer.
 fn started(image: &[u8], label: &[u8], buffer: &[u8]) -> Seen {
-    let library = seen(image, buffer, |image, bundle| {
-        reading([label], |[label]| start(image, label, bundle))
-    });
-    let reference = seen(image, buffer, |image, bundle| {
-        let answer = on_image(image, |session| bundle::start(session, label, bundle));
-        coded(answer.map(|()| 0))
-    });
-    agreed(library, reference)
+    bundles::started(start, image, label, buffer)
 }
 
 /// Adds an entry by both to the bundle in a buffer.
 fn added(image: &[u8], header: &[u8], body: &[u8], buffer: &[u8]) -> Seen {
-    let library = seen(image, buffer, |image, bundle| {
-        reading([header, body], |[header, body]| {
-            add(image, header, body, bundle)
-        })
-    });
-    let reference = seen(image, buffer, |image, bundle| {
-        let answer = on_image(image, |session| bundle::add(session, header, body, bundle));
-        coded(answer.map(|()| 0))
-    });
-    agreed(library, reference)
+    bundles::added(add, image, header, body, buffer)
 }
 
 /// A bundle's session, fresh from open.
 fn session(random: &mut Random) -> Session {
     Session::open(&random.bytes(32), 136, 16).unwrap()
-}
-
-/// An entry's bytes with anything for a ciphertext and tag.
-fn entry(header: &[u8], body: usize) -> Vec<u8> {
-    let header_length = (header.len() as u16).to_be_bytes();
-    let body_length = (body as u32).to_be_bytes();
-    [
-        &header_length,
-        &body_length[..],
-        header,
-        &vec![0x33; body + 16],
-    ]
-    .concat()
-}
-
-/// A bundle of the given entries, with its length right.
-fn bundle_of(entries: &[Vec<u8>]) -> Vec<u8> {
-    let rest = entries.concat();
-    [&[1], &(rest.len() as u32).to_be_bytes()[..], &rest].concat()
 }
 
 /// A sealed bundle: the image it starts from, its entries' bytes, and their bodies.

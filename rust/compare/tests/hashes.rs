@@ -1,11 +1,9 @@
 //! The library's hashes against the reference: every short length, and lengths to 1 MiB.
 
 use compare::hashes::{sha3_256, shake128, shake256};
-use compare::inputs::{Guarded, Random};
+use inputs::hashes::{digested, filled, Shake, LONG, NEAR, TROUBLE};
+use inputs::random::Random;
 use reference::sponge;
-
-/// One of the two functions that fill a slice.
-type Shake = fn(&[u8], &mut [u8]);
 
 /// Both SHAKEs, the library's beside the reference's.
 const SHAKES: [(Shake, Shake); 2] = [(shake128, sponge::shake128), (shake256, sponge::shake256)];
@@ -13,38 +11,17 @@ const SHAKES: [(Shake, Shake); 2] = [(shake128, sponge::shake128), (shake256, sp
 /// Output lengths around the digest's and around both rates.
 const ROOMS: [usize; 10] = [0, 1, 31, 32, 135, 136, 137, 168, 169, 400];
 
-/// Lengths around whole blocks of both rates, up to 1 MiB.
-const LONG: [usize; 12] = [
-    2_039, 2_040, 2_041, 2_519, 2_520, 2_521, 65_535, 65_536, 131_072, 1_048_559, 1_048_560,
-    1_048_576,
-];
-
-/// A buffer to lend whose bytes are not what a digest would be.
-fn room(length: usize) -> Guarded {
-    Guarded::new(&vec![0x5A; length])
-}
-
 /// Holds both SHAKEs to the reference for a message and an output length.
 fn check_shakes(message: &[u8], length: usize) {
     for (ours, theirs) in SHAKES {
-        let mut lent = room(length);
-        ours(message, lent.lent());
-        let mut expected = vec![0; length];
-        theirs(message, &mut expected);
-        assert_eq!(lent.content(), expected, "{} to {length}", message.len());
+        filled(ours, theirs, message, &vec![0x5A; length]);
     }
 }
 
 /// Holds SHA3-256 to the reference for a message and an output length, too short or not.
 fn check_sha3_256(message: &[u8], length: usize) {
-    let mut lent = room(length);
-    let answer = sha3_256(message, lent.lent());
-    let mut expected = vec![0x5A; length];
-    if length >= 32 {
-        expected[..32].copy_from_slice(&sponge::sha3_256(message));
-    }
-    assert_eq!(answer, if length < 32 { 6 } else { 0 });
-    assert_eq!(lent.content(), expected, "{} to {length}", message.len());
+    let seen = digested(sha3_256, message, &vec![0x5A; length]);
+    assert_eq!(seen.answer, if length < 32 { 6 } else { 0 });
 }
 
 #[test]
@@ -83,11 +60,10 @@ fn long_outputs() {
     }
 }
 
-/// Bytes that a sign or a carry could trouble, at each length around a block.
 #[test]
 fn messages_of_one_byte_repeated() {
-    for value in [0x00, 0x01, 0x7F, 0x80, 0xFF] {
-        for length in [0, 1, 7, 8, 9, 135, 136, 137, 167, 168, 169, 272, 336] {
+    for value in TROUBLE {
+        for length in NEAR {
             check_sha3_256(&vec![value; length], 32);
             check_shakes(&vec![value; length], 200);
         }

@@ -1,6 +1,7 @@
 //! The desk surface of document 01: a session that travels as an image of 216 bytes.
 
 use crate::keccak::{bytes_of, lanes_of};
+use crate::sponge;
 use crate::spongewrap::{Refusal, Session, ROOM};
 
 /// How many bytes an image has.
@@ -56,4 +57,11 @@ pub fn open(rate: u16, tag: u16, key: &[u8], image: &mut [u8]) -> Result<(), Ref
         *session = Session::open(key, rate, tag)?;
         Ok(())
     })
+}
+
+/// Writes the SHA3-256 of a message to the first bytes of `digest`, or refuses it as too short.
+pub fn sha3_256(message: &[u8], digest: &mut [u8]) -> Result<(), Refusal> {
+    let digest = digest.first_chunk_mut().ok_or(ROOM)?;
+    *digest = sponge::sha3_256(message);
+    Ok(())
 }

@@ -1,6 +1,7 @@
-//! Images of sessions.
+//! Images of sessions, and the digest that is lent.
 
-use reference::desk::{on_image, open, IMAGE};
+use reference::desk::{on_image, open, sha3_256, IMAGE};
+use reference::sponge;
 use reference::spongewrap::{Refusal, Session, KEY, ROOM};
 
 /// An image is a session and a session is an image, whatever the numbers in it.
@@ -42,4 +43,16 @@ fn an_image_of_another_length_is_refused_first() {
         assert_eq!(open(0, 0, &[], &mut image), Err(ROOM));
         assert!(image.iter().all(|byte| *byte == 0x5A));
     }
+}
+
+#[test]
+fn a_digest_has_room_or_is_not_written() {
+    let mut digest = [0x5A; 33];
+    assert_eq!(sha3_256(b"abc", &mut digest[..31]), Err(ROOM));
+    assert_eq!(digest, [0x5A; 33]);
+    assert_eq!(sha3_256(b"abc", &mut digest), Ok(()));
+    assert_eq!(
+        (&digest[..32], digest[32]),
+        (&sponge::sha3_256(b"abc")[..], 0x5A)
+    );
 }

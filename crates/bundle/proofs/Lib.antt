@@ -1,0 +1,4 @@
+pub mod Tables
+pub mod Entries
+pub mod Opening
+pub mod Writing

@@ -1,0 +1,72 @@
+-- What answers say: a number, a place and values (document 01, "Refusal numbers" and "Bundle, version 1").
+use Prim.Native.Nat.{ℕ, zero, suc}
+use mathlib.Core.List.{List, [], _∷_}
+use mathlib.Core.Bool.{Bool, not}
+use lib.Dec.{eqb}
+use Rattle.spongewrap.specs.Refusals.{first, standing}
+use Rattle.spongewrap.specs.declared.Session.{Session}
+use Rattle.bundle.specs.declared.Entry.{Entry}
+use Rattle.bundle.specs.declared.Entry.the-variants.{Whole, Short, Large, Past}
+use Rattle.bundle.specs.declared.Surveyed.{Surveyed}
+use Rattle.bundle.specs.declared.Surveyed.the-variants.{Entries, Refused}
+use Rattle.bundle.specs.declared.Answer.{Answer}
+use Rattle.bundle.specs.Format.{bundleRate}
+
+-- the number, 0 if accepted; the place, 0 unless said; and what else an accepted call answers
+pub record Told : Type 0 where
+  pub number : ℕ
+  pub place : ℕ
+  pub values : List ℕ
+
+abbrev pub refused : ℕ → ℕ → Told
+refused number place = record { number = number; place = place; values = [] }
+
+abbrev pub accepted : ℕ → List ℕ → Told
+accepted place values = record { number = 0; place = place; values = values }
+
+-- ---- tables of refusals: the first that refuses, else what stands last
+
+-- x where the number refuses, y where it is 0
+unfoldable pub by : {A : Type 0} → ℕ → A → A → A
+by zero x y = y
+by (suc n) x y = x
+
+infixr 10 _orElse_
+abbrev pub _orElse_ : Told → Told → Told
+t orElse rest = by (t .number) t rest
+
+-- rows whose refusals carry one place
+abbrev pub placed : ℕ → List (Bool × ℕ) → Told
+placed place rows = refused (first rows) place
+
+-- a session's own rows, with the bundle's rate and tag length: 1, 3, 7
+abbrev pub own : ℕ → Session → List (Bool × ℕ)
+own T s = standing (not (eqb (s .rate) bundleRate)) (not (eqb (s .tag) T)) s
+
+-- ---- the answers that are enums
+
+-- an entry at a place
+abbrev pub entryTold : Entry → ℕ → Told
+entryTold (Whole header body next) place = accepted 0 (header ∷ body ∷ next ∷ [])
+entryTold Short place = refused 9 place
+entryTold Large place = refused 9 place
+entryTold Past place = refused 9 place
+
+-- a survey
+abbrev pub surveyTold : Surveyed → Told
+surveyTold (Entries n) = accepted 0 (n ∷ [])
+surveyTold (Refused number place) = refused number place
+
+-- ---- the calls that hand a session back
+
+-- what is seen of one: its answer, and the lent buffer as it is left
+pub record Seen : Type 0 where
+  pub answer : Answer
+  pub buffer : List ℕ
+
+abbrev pub seen : Answer → List ℕ → Seen
+seen a d = record { answer = a; buffer = d }
+
+-- by its table: a refusal keeps the session s and the buffer d; else they are s′ and d′
+abbrev pub settled : Told → Session → List ℕ → Session → List ℕ → Seen
+settled t s d s′ d′ = seen (record { number = t .number; place = t .place; session = by (t .number) s s′ }) (by (t .number) d d′)

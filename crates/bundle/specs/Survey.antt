@@ -1,0 +1,37 @@
+-- The survey of a bundle (document 01, "Bundle, version 1": "Survey, in order").
+use Prim.Native.Nat.{ℕ, zero, suc, _+_, _-_}
+use mathlib.Core.List.{List, [], _∷_}
+use mathlib.Core.Bool.{Bool, true, not, _||_}
+use lib.ListN.{length, getD}
+use lib.Dec.{eqb, ltb}
+use Rattle.fields.specs.Numbers.{numberAt}
+use Rattle.bundle.specs.declared.Entry.{Entry}
+use Rattle.bundle.specs.declared.Entry.the-variants.{Whole, Short, Large, Past}
+use Rattle.bundle.specs.Format.{version, most, nextAt, choose, entryAt, badLabel}
+use Rattle.bundle.specs.Answers.{Told, refused, accepted, placed, _orElse_, entryTold}
+
+-- entry zero is missing, has a body, or its header isn't 16 to 64 bytes
+unfoldable pub unlabelled : Entry → Bool
+unlabelled (Whole header body next) = not (eqb body 0) || badLabel header
+unlabelled Short = true
+unlabelled Large = true
+unlabelled Past = true
+
+-- last, 11 at 5; else the number of entries
+unfoldable pub last : ℕ → List ℕ → ℕ → Told
+last T b k = placed 5 ((unlabelled (entryAt T b 5), 11) ∷ []) orElse accepted 0 (k ∷ [])
+
+-- entry by entry: number k is at `place`, and n more may come before entry 65,535, which is 7 at its first byte
+unfoldable pub walk : ℕ → ℕ → List ℕ → ℕ → ℕ → Told
+walk T zero b place k = choose (ltb place (length b)) (refused 7 place) (last T b k)
+walk T (suc n) b place k =
+    choose (ltb place (length b)) (entryTold (entryAt T b place) place orElse walk T n b (nextAt T b place) (k + 1)) (last T b k)
+
+unfoldable pub entriesFrom : ℕ → List ℕ → ℕ → ℕ → Told
+entriesFrom T b place k = walk T (65535 - k) b place k
+
+unfoldable pub surveys : ℕ → List ℕ → Told
+surveys T b =
+    placed 0 ((eqb (length b) 0, 9) ∷ (ltb most (length b), 9) ∷ (not (eqb (getD b 0 0) version), 10) ∷ [])
+    orElse placed 1 ((ltb (length b) 5, 9) ∷ (not (eqb (numberAt 4 b 1) (length b - 5)), 9) ∷ [])
+    orElse entriesFrom T b 5 0

@@ -1,0 +1,416 @@
+// Bundles, version 1: the pairs of one session, end to end in one buffer.
+// A bundle is surveyed as it stands; its entries are opened one by one, and it is started and added to in place.
+ghost use mathlib.Core.Path.{_≡_};
+ghost use Prim.Native.Nat.{_+_, _≤_};
+ghost use lib.ListN.{length};
+ghost use lib.Seq.{sets};
+ghost use Rattle.spongewrap.specs.Refusals.{first};
+ghost use Rattle.spongewrap.specs.Sessions.{next};
+ghost use Rattle.bundle.specs.Format.{tagLength, entryOf, size, entryAt, badLabel};
+ghost use Rattle.bundle.specs.Answers.{refused, own, entryTold, surveyTold, seen};
+ghost use Rattle.bundle.specs.Survey.{unlabelled, entriesFrom, surveys};
+ghost use Rattle.bundle.specs.Opening.{opens};
+ghost use Rattle.bundle.specs.Writing.{Ready, startTable, starts, endOf, bufferTable, addTable, adds};
+use spongewrap::Session;
+use spongewrap::refusal;
+
+// The format's own refusal numbers; the others are spongewrap's.
+pub const MALFORMED: u8 = 9;
+
+pub const OTHER_VERSION: u8 = 10;
+
+pub const NO_LABEL: u8 = 11;
+
+// The version, and the settings of its session.
+const VERSION: u8 = 1;
+
+const RATE: u16 = 136;
+
+const TAG: usize = 16;
+
+// The version and the stated length stand before the entries, two lengths before an entry's parts.
+const HEAD: usize = 5;
+
+const LENGTHS: usize = 6;
+
+const MOST_BYTES: usize = 16_777_216;
+
+const MOST_ENTRIES: usize = 65_535;
+
+const MOST_HEADER: usize = 65_535;
+
+const MOST_BODY: usize = 1_048_576;
+
+// What stands at a place: a whole entry, or why there is none.
+pub enum Entry {
+    // The lengths of its header and body, and the place after it.
+    Whole {
+        header: usize,
+        body: usize,
+        next: usize,
+    },
+    // Under six bytes are left.
+    Short,
+    // The body length is over the limit.
+    Large,
+    // Its parts run past the end.
+    Past,
+}
+
+// A survey's answer: the number of entries, or a refusal.
+pub enum Surveyed {
+    Entries(usize),
+    Refused { number: u8, place: usize },
+}
+
+// What a call with a session answers: 0 or a refusal's number, a place, and a session.
+pub struct Answer {
+    pub number: u8,
+    pub place: usize,
+    pub session: Session,
+}
+
+// A refusal that is not answered yet; number 0 refuses nothing.
+pub struct Refusal {
+    pub number: u8,
+    pub place: usize,
+}
+
+// How many bytes an entry takes, by the lengths of its header and body.
+fn entry_size(header: usize, body: usize) -> usize
+    requires { ⌜ (header ≤ 65535) × (body ≤ 1048576) ⌝ }
+    ensures { λ r. ⌜ r ≡ size tagLength header body ⌝ }
+{
+    LENGTHS + header + body + TAG
+}
+
+// The entry at a place, by the entry rules, up to the end of the lent bytes.
+pub fn entry_at(bundle: &[u8], place: usize) -> Entry
+    ensures { λ r. ⌜ r ≡ entryAt tagLength (now (bundle .entry)) place ⌝ }
+{
+    if bundle.len() <= place {
+        return Entry::Short;
+    }
+    let left = bundle.len() - place;
+    if left < LENGTHS {
+        return Entry::Short;
+    }
+    let header = fields::read_u16(bundle, place) as usize;
+    let body = fields::read_u32(bundle, place + 2) as usize;
+    if MOST_BODY < body {
+        return Entry::Large;
+    }
+    let size = entry_size(header, body);
+    if left < size {
+        return Entry::Past;
+    }
+    Entry::Whole {
+        header,
+        body,
+        next: place + size,
+    }
+}
+
+// The refusal of a place where no entry is whole: the causes get their numbers and places here.
+fn entry_refusal(entry: Entry, place: usize) -> Refusal
+    ensures { λ r. ⌜ (r .number ≡ entryTold entry place .number) × (r .place ≡ entryTold entry place .place) ⌝ }
+{
+    match entry {
+        Entry::Whole {
+            header: _,
+            body: _,
+            next: _,
+        } => Refusal {
+            number: 0,
+            place: 0,
+        },
+        Entry::Short => Refusal {
+            number: MALFORMED,
+            place,
+        },
+        Entry::Large => Refusal {
+            number: MALFORMED,
+            place,
+        },
+        Entry::Past => Refusal {
+            number: MALFORMED,
+            place,
+        },
+    }
+}
+
+// Whether a label's length is out of range.
+fn bad_label(label: usize) -> bool
+    ensures { λ r. ⌜ r ≡ badLabel label ⌝ }
+{
+    label < 16 || 64 < label
+}
+
+// Whether an entry is unfit to be entry zero.
+fn is_unlabelled(entry: Entry) -> bool
+    ensures { λ r. ⌜ r ≡ unlabelled entry ⌝ }
+{
+    match entry {
+        Entry::Whole {
+            header,
+            body,
+            next: _,
+        } => body != 0 || bad_label(header),
+        Entry::Short => true,
+        Entry::Large => true,
+        Entry::Past => true,
+    }
+}
+
+// The entries of a bundle whose first bytes are right, in one pass; last, entry zero.
+fn survey_entries(bundle: &[u8]) -> Surveyed
+    ensures { λ r. ⌜ surveyTold r ≡ entriesFrom tagLength (now (bundle .entry)) 5 0 ⌝ }
+{
+    let mut place = HEAD;
+    let mut count = 0;
+    while place < bundle.len() {
+        if count == MOST_ENTRIES {
+            return Surveyed::Refused {
+                number: refusal::FULL,
+                place,
+            };
+        }
+        let entry = entry_at(bundle, place);
+        let Entry::Whole {
+            header: _,
+            body: _,
+            next,
+        } = entry
+        else {
+            let r = entry_refusal(entry, place);
+            return Surveyed::Refused {
+                number: r.number,
+                place: r.place,
+            };
+        };
+        place = next;
+        count += 1;
+    }
+    if is_unlabelled(entry_at(bundle, HEAD)) {
+        return Surveyed::Refused {
+            number: NO_LABEL,
+            place: HEAD,
+        };
+    }
+    Surveyed::Entries(count)
+}
+
+// Whether bytes are a bundle, and of how many entries. No tag is looked at: a bundle is open when each entry has opened.
+pub fn survey(bundle: &[u8]) -> Surveyed
+    ensures { λ r. ⌜ surveyTold r ≡ surveys tagLength (now (bundle .entry)) ⌝ }
+{
+    let bytes = bundle.len();
+    if bytes == 0 || MOST_BYTES < bytes {
+        return Surveyed::Refused {
+            number: MALFORMED,
+            place: 0,
+        };
+    }
+    if bundle[0] != VERSION {
+        return Surveyed::Refused {
+            number: OTHER_VERSION,
+            place: 0,
+        };
+    }
+    if bytes < HEAD {
+        return Surveyed::Refused {
+            number: MALFORMED,
+            place: 1,
+        };
+    }
+    let stated = fields::read_u32(bundle, 1) as usize;
+    if stated != bytes - HEAD {
+        return Surveyed::Refused {
+            number: MALFORMED,
+            place: 1,
+        };
+    }
+    survey_entries(bundle)
+}
+
+fn answered(number: u8, place: usize, session: Session) -> Answer
+    ensures { λ r. ⌜ r ≡ record { number = number; place = place; session = session } ⌝ }
+{
+    Answer {
+        number,
+        place,
+        session,
+    }
+}
+
+// What a bundle refuses of a session: 1, 3, 7, or 0.
+fn own_refusal(s: Session) -> u8
+    ensures { λ r. ⌜ r ≡ first (own tagLength s) ⌝ }
+{
+    refusal::of_session(s, s.rate != RATE, s.tag as usize != TAG)
+}
+
+// Opens the entry at a place: its body goes to the first bytes of `out`, and the answer's place is the next entry's.
+// A refusal carries the place that was asked for.
+pub fn open_entry(s: Session, bundle: &[u8], place: usize, out: &mut [u8]) -> Answer
+    ensures { λ r. ⌜ seen r (now (out .exit)) ≡ opens tagLength s (now (bundle .entry)) place (now (out .entry)) ⌝ }
+{
+    let number = own_refusal(s);
+    if number != 0 {
+        return answered(number, place, s);
+    }
+    let entry = entry_at(bundle, place);
+    let Entry::Whole { header, body, next } = entry else {
+        let r = entry_refusal(entry, place);
+        return answered(r.number, r.place, s);
+    };
+    let start = place + LENGTHS;
+    let cipher = start + header;
+    let tag = cipher + body;
+    let done = spongewrap::unwrap(
+        s,
+        &bundle[start..cipher],
+        &bundle[cipher..tag],
+        &bundle[tag..next],
+        out,
+    );
+    let number = done.number;
+    let session = done.session;
+    if number != 0 {
+        return answered(number, place, session);
+    }
+    answered(0, next, session)
+}
+
+// Writes an entry at a place. The pair is sealed where it stands: one part of the bundle, from the ciphertext through
+// the tag, is lent on.
+fn write_entry(s: Session, header: &[u8], body: &[u8], bundle: &mut [u8], place: usize) -> Session
+    requires { ⌜ Ready tagLength s (length (now header)) (length (now body)) × (place + size tagLength (length (now header)) (length (now body)) ≤ length (now bundle)) ⌝ }
+    ensures { λ r. ⌜ (r ≡ next s (now (header .entry)) (now (body .entry))) × (now (bundle .exit) ≡ sets (now (bundle .entry)) place (entryOf s (now (header .entry)) (now (body .entry)))) ⌝ }
+{
+    fields::put_u16(bundle, place, header.len() as u16);
+    fields::put_u32(bundle, place + 2, body.len() as u32);
+    let start = place + LENGTHS;
+    fields::put_string(bundle, start, header);
+    let cipher = start + header.len();
+    let end = cipher + body.len() + TAG;
+    let done = spongewrap::wrap(s, header, body, &mut bundle[cipher..end]);
+    done.session
+}
+
+// The refusals of a start, by the lengths of its label and buffer. Each carries place 0.
+fn start_refusal(s: Session, label: usize, room: usize) -> u8
+    ensures { λ r. ⌜ refused r 0 ≡ startTable tagLength s label room ⌝ }
+{
+    let number = own_refusal(s);
+    if number != 0 {
+        return number;
+    }
+    if bad_label(label) {
+        return NO_LABEL;
+    }
+    if room < HEAD + entry_size(label, 0) {
+        return refusal::ROOM;
+    }
+    0
+}
+
+// Starts a bundle: version, length, and entry zero with its label.
+pub fn start(s: Session, label: &[u8], bundle: &mut [u8]) -> Answer
+    ensures { λ r. ⌜ seen r (now (bundle .exit)) ≡ starts tagLength s (now (label .entry)) (now (bundle .entry)) ⌝ }
+{
+    let number = start_refusal(s, label.len(), bundle.len());
+    if number != 0 {
+        return answered(number, 0, s);
+    }
+    bundle[0] = VERSION;
+    fields::put_u32(bundle, 1, entry_size(label.len(), 0) as u32);
+    let session = write_entry(s, label, b"", bundle, HEAD);
+    answered(0, 0, session)
+}
+
+// Where a buffer says that its bundle ends.
+fn end_of(bundle: &[u8]) -> usize
+    requires { ⌜ 5 ≤ length (now bundle) ⌝ }
+    ensures { λ r. ⌜ r ≡ endOf (now (bundle .entry)) ⌝ }
+{
+    HEAD + fields::read_u32(bundle, 1) as usize
+}
+
+// The refusals of an add, by the lengths of its header and body. Of the buffer, the first five bytes are read.
+fn add_refusal(s: Session, bundle: &[u8], header: usize, body: usize) -> Refusal
+    ensures { λ r. ⌜ refused (r .number) (r .place) ≡ addTable tagLength s (now (bundle .entry)) header body ⌝ }
+{
+    let number = own_refusal(s);
+    if number != 0 {
+        return Refusal { number, place: 0 };
+    }
+    if MOST_HEADER < header {
+        return Refusal {
+            number: refusal::HEADER,
+            place: 0,
+        };
+    }
+    if MOST_BODY < body {
+        return Refusal {
+            number: refusal::BODY,
+            place: 0,
+        };
+    }
+    buffer_refusal(bundle, header, body)
+}
+
+// The buffer's own first bytes, and then the room that an entry more would take.
+fn buffer_refusal(bundle: &[u8], header: usize, body: usize) -> Refusal
+    requires { ⌜ (header ≤ 65535) × (body ≤ 1048576) ⌝ }
+    ensures { λ r. ⌜ refused (r .number) (r .place) ≡ bufferTable tagLength (now (bundle .entry)) header body ⌝ }
+{
+    let room = bundle.len();
+    if room < HEAD {
+        return Refusal {
+            number: MALFORMED,
+            place: 0,
+        };
+    }
+    if bundle[0] != VERSION {
+        return Refusal {
+            number: OTHER_VERSION,
+            place: 0,
+        };
+    }
+    let end = end_of(bundle);
+    if room < end {
+        return Refusal {
+            number: MALFORMED,
+            place: 1,
+        };
+    }
+    let raised = end + entry_size(header, body);
+    if room < raised || MOST_BYTES < raised {
+        return Refusal {
+            number: refusal::ROOM,
+            place: 0,
+        };
+    }
+    Refusal {
+        number: 0,
+        place: 0,
+    }
+}
+
+// Adds an entry at the stated end of the bundle, and raises the stated length. All other bytes stand.
+pub fn add(s: Session, header: &[u8], body: &[u8], bundle: &mut [u8]) -> Answer
+    ensures { λ r. ⌜ seen r (now (bundle .exit)) ≡ adds tagLength s (now (header .entry)) (now (body .entry)) (now (bundle .entry)) ⌝ }
+{
+    let r = add_refusal(s, &bundle[..], header.len(), body.len());
+    let number = r.number;
+    let place = r.place;
+    if number != 0 {
+        return answered(number, place, s);
+    }
+    let end = end_of(&bundle[..]);
+    let session = write_entry(s, header, body, bundle, end);
+    let raised = end + entry_size(header.len(), body.len());
+    fields::put_u32(bundle, 1, (raised - HEAD) as u32);
+    answered(0, 0, session)
+}

@@ -1,0 +1,210 @@
+//! Calls of libprobe.a on bundles.
+
+use crate::made_up::{around, body, header, once_in, room, wilder};
+use crate::Trial;
+use compare::bundles::{add, open_entry, start, survey};
+use inputs::bundles::{added, bundle_of, entry, opened, started, surveyed};
+use inputs::random::Random;
+use inputs::sessions::{damage, flip, string};
+use reference::bundle;
+use reference::spongewrap::{Session, MOST_BODY};
+
+/// Each export.
+pub const TRIALS: [Trial; 4] = [
+    ("probe_survey", try_survey),
+    ("probe_open_entry", try_open_entry),
+    ("probe_start", try_start),
+    ("probe_add", try_add),
+];
+
+/// The longest bundle and the most entries, as document 01 has them.
+const MOST_BUNDLE: usize = 16_777_216;
+const MOST_ENTRIES: usize = 65_535;
+
+/// The bytes of entry zero and what stands before it, with the shortest label.
+const SHORTEST: usize = 5 + 6 + 16 + 16;
+
+/// A bundle in a buffer with bytes to spare, the session that opens its last entry, and the place
+/// of that entry and the one after it.
+struct Sealed {
+    buffer: Vec<u8>,
+    reader: Session,
+    writer: Session,
+    last: usize,
+    end: usize,
+}
+
+impl Sealed {
+    /// A bundle of a few random entries, by the reference.
+    fn new(random: &mut Random) -> Self {
+        let mut writer = Session::open(&random.bytes(32), 136, 16).unwrap();
+        let (reader, mut buffer) = (writer.clone(), random.bytes(4_000));
+        let label_length = 16 + random.below(49);
+        bundle::start(&mut writer, &random.bytes(label_length), &mut buffer).unwrap();
+        let mut sealed = Sealed {
+            end: stated_end(&buffer),
+            last: 5,
+            buffer,
+            reader,
+            writer,
+        };
+        (0..random.below(4)).for_each(|_| sealed.add(random));
+        sealed
+    }
+
+    /// Adds a random entry, for which there is room.
+    fn add(&mut self, random: &mut Random) {
+        let (header, body) = (random.below(300), random.below(600));
+        let (header, body) = (random.bytes(header), random.bytes(body));
+        self.reader = self.writer.clone();
+        bundle::add(&mut self.writer, &header, &body, &mut self.buffer).unwrap();
+        (self.last, self.end) = (self.end, stated_end(&self.buffer));
+    }
+
+    /// The bundle alone.
+    fn whole(&self) -> Vec<u8> {
+        self.buffer[..self.end].to_vec()
+    }
+}
+
+/// Where a bundle says that it ends.
+fn stated_end(buffer: &[u8]) -> usize {
+    5 + u32::from_be_bytes(buffer[1..5].try_into().unwrap()) as usize
+}
+
+/// States where a bundle ends.
+fn state_end(bundle: &mut [u8], end: usize) {
+    let rest = end as u32 - 5;
+    bundle[1..5].copy_from_slice(&rest.to_be_bytes());
+}
+
+/// States a bundle's true length, so that a change of its length is not all that is wrong.
+fn put_right(bundle: &mut [u8]) {
+    if bundle.len() >= 5 {
+        state_end(bundle, bundle.len());
+    }
+}
+
+/// Bundles that are sound, cut, changed, or put together from any entries.
+fn any_bundle(random: &mut Random) -> Vec<u8> {
+    let mut bundle = match random.below(3) {
+        0 => bundle_of(&any_entries(random)),
+        _ => Sealed::new(random).whole(),
+    };
+    match random.below(6) {
+        0 => bundle.truncate(random.below(bundle.len() + 1)),
+        1 => damage(random, &mut bundle),
+        2 => {
+            let bit = random.below(8 * bundle.len().min(60));
+            flip(&mut bundle, bit);
+        }
+        3 => bundle = string(random),
+        _ => {}
+    }
+    if once_in(random, 2) {
+        put_right(&mut bundle);
+    }
+    bundle
+}
+
+/// Entries with lengths around the limits of labels, and a wild length now and then.
+fn any_entries(random: &mut Random) -> Vec<Vec<u8>> {
+    let mut entries = Vec::new();
+    for _ in 0..random.below(6) {
+        let header = random.pick(&[0, 15, 16, 64, 65, 300]);
+        let mut entry = entry(&random.bytes(header), random.pick(&[0, 0, 1, 200]));
+        if once_in(random, 8) {
+            entry[random.below(6)] = random.pick(&[0, 1, 0x0F, 0x10, 0x11, 0xFF]);
+        }
+        entries.push(entry);
+    }
+    entries
+}
+
+/// A session's image, with a wild number or damage now and then.
+fn image(random: &mut Random, session: &Session) -> Vec<u8> {
+    let mut session = session.clone();
+    wilder(random, &mut session);
+    let mut image = session.to_image().to_vec();
+    if once_in(random, 12) {
+        damage(random, &mut image);
+    }
+    image
+}
+
+/// A bundle at one of the limits that short ones never meet, or next to it.
+fn long_bundle(random: &mut Random) -> Vec<u8> {
+    let mut entries = vec![entry(&[0x41; 16], 0)];
+    match random.below(8) {
+        0 => entries.resize(16, entry(&[], MOST_BODY)),
+        1 | 2 => entries.resize(around(random, MOST_ENTRIES), entry(&[], 0)),
+        _ => entries.push(entry(&[], around(random, MOST_BODY))),
+    }
+    if entries.len() == 16 {
+        let left = MOST_BUNDLE - 22 - bundle_of(&entries).len();
+        entries.push(entry(&[], around(random, left)));
+    }
+    bundle_of(&entries)
+}
+
+fn try_survey(random: &mut Random) {
+    let bundle = match once_in(random, 300) {
+        true => long_bundle(random),
+        false => any_bundle(random),
+    };
+    surveyed(survey, &bundle);
+}
+
+fn try_open_entry(random: &mut Random) {
+    let sealed = Sealed::new(random);
+    let (mut bundle, mut place) = (sealed.whole(), sealed.last as u64);
+    match random.below(6) {
+        0 => bundle = any_bundle(random),
+        1 => damage(random, &mut bundle),
+        // Answers carry a place times 256, so places stay under 2^56.
+        2 => place = random.word() >> (8 + random.below(56)),
+        _ => {}
+    }
+    let (image, room) = (image(random, &sealed.reader), room(random, 600));
+    opened(open_entry, &image, &bundle, place, &room);
+}
+
+fn try_start(random: &mut Random) {
+    let sealed = Sealed::new(random);
+    let limit = random.pick(&[16, 40, 64]);
+    let label_length = around(random, limit);
+    let image = image(random, &sealed.reader);
+    let room = room(random, SHORTEST - 16 + label_length);
+    started(start, &image, &random.bytes(label_length), &room);
+}
+
+fn try_add(random: &mut Random) {
+    let sealed = Sealed::new(random);
+    let (header, body) = (header(random), body(random));
+    let needed = 22 + header.len() + body.len();
+    let buffer = match once_in(random, 1_000) {
+        true => long_buffer(random, needed),
+        false => any_buffer(random, &sealed, needed),
+    };
+    added(add, &image(random, &sealed.writer), &header, &body, &buffer);
+}
+
+/// A sound bundle with about as much room as is needed, changed now and then.
+fn any_buffer(random: &mut Random, sealed: &Sealed, needed: usize) -> Vec<u8> {
+    let mut buffer = [sealed.whole(), room(random, needed)].concat();
+    match random.below(12) {
+        0 => flip(&mut buffer, random.below(40)),
+        1 => buffer.truncate(random.below(8)),
+        _ => {}
+    }
+    buffer
+}
+
+/// A buffer that has room past the longest bundle, or just not, for an entry that ends there.
+fn long_buffer(random: &mut Random, needed: usize) -> Vec<u8> {
+    let mut buffer = vec![0x5A; MOST_BUNDLE - 1 + random.below(3)];
+    buffer[0] = 1;
+    let end = around(random, MOST_BUNDLE - needed);
+    state_end(&mut buffer, end);
+    buffer
+}

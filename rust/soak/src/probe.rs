@@ -1,0 +1,80 @@
+//! Calls of libprobe.a but for the bundles.
+
+use crate::made_up::{around, message, once_in, room};
+use crate::{sessions, Trial};
+use compare::hashes::{sha3_256, shake128, shake256};
+use compare::permutation::{permute, permute_times};
+use compare::sessions::{open, unwrap, wrap};
+use inputs::hashes::{digested, filled, Shake};
+use inputs::permutation::permuted;
+use inputs::random::Random;
+use inputs::sessions::{length, tag_length, Calls, RATES, TAGS};
+use reference::sponge;
+
+/// The archive's two calls on pairs.
+const CALLS: Calls = Calls { wrap, unwrap };
+
+/// Each export.
+pub const TRIALS: [Trial; 8] = [
+    ("probe_permute", try_permute),
+    ("probe_permute_times", try_permute_times),
+    ("probe_sha3_256", try_sha3_256),
+    ("probe_shake128", try_shake128),
+    ("probe_shake256", try_shake256),
+    ("probe_open", try_open),
+    ("probe_wrap", |random| sessions::wrap(random, CALLS)),
+    ("probe_unwrap", |random| sessions::unwrap(random, CALLS)),
+];
+
+/// A state, of another length now and then.
+fn state(random: &mut Random) -> Vec<u8> {
+    let length = match random.below(8) {
+        0 => around(random, 200),
+        1 => length(random),
+        _ => 200,
+    };
+    random.bytes(length)
+}
+
+fn try_permute(random: &mut Random) {
+    permuted(permute, &state(random), 1);
+}
+
+fn try_permute_times(random: &mut Random) {
+    let (state, times) = (state(random), random.below(40) as u64);
+    permuted(|state| permute_times(state, times), &state, times);
+}
+
+fn try_sha3_256(random: &mut Random) {
+    let (message, room) = (message(random), room(random, 32));
+    digested(sha3_256, &message, &room);
+}
+
+fn try_shake128(random: &mut Random) {
+    shake(random, shake128, sponge::shake128);
+}
+
+fn try_shake256(random: &mut Random) {
+    shake(random, shake256, sponge::shake256);
+}
+
+/// A SHAKE of any message to any length.
+fn shake(random: &mut Random, library: Shake, reference: Shake) {
+    let message = message(random);
+    let room = match once_in(random, 2) {
+        true => crate::made_up::message(random),
+        false => room(random, 136),
+    };
+    filled(library, reference, &message, &room);
+}
+
+fn try_open(random: &mut Random) {
+    let (mut rate, mut tag) = (random.pick(&[136, 168]), tag_length(random));
+    match random.below(8) {
+        0 => rate = random.pick(&RATES),
+        1 => tag = random.pick(&TAGS),
+        2 => (rate, tag) = (random.word() as u16, random.word() as u16),
+        _ => {}
+    }
+    sessions::open(random, |key, image| open(rate, tag, key, image), rate, tag);
+}
