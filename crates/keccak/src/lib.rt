@@ -2,6 +2,7 @@
 // Each step is a function of its own over arrays by value; compiled, they become one loop over the rounds.
 ghost use mathlib.Core.Path.{_≡_};
 ghost use Prim.Native.Nat.{_<_};
+ghost use lib.ListN.{take};
 ghost use Rattle.keccak.specs.Lanes.{rotl};
 ghost use Rattle.keccak.specs.Steps.{parities, effects, theta, rho, pi, chi, iota};
 ghost use Rattle.keccak.specs.Tables.{offsets, constants};
@@ -213,35 +214,54 @@ pub fn pi(a: [u64; 25]) -> [u64; 25]
     ]
 }
 
+// χ on one row: the first row of the step, which no other row enters.
+fn chi_row(b: [u64; 5]) -> [u64; 5]
+    ensures { λ r. ⌜ r ≡ take 5 (chi 64 b) ⌝ }
+{
+    [
+        b[0] ^ (!b[1] & b[2]),
+        b[1] ^ (!b[2] & b[3]),
+        b[2] ^ (!b[3] & b[4]),
+        b[3] ^ (!b[4] & b[0]),
+        b[4] ^ (!b[0] & b[1]),
+    ]
+}
+
+// χ, the last row first: compiled in this order, a round moves fewer lanes between registers and the stack.
 pub fn chi(a: [u64; 25]) -> [u64; 25]
     ensures { λ r. ⌜ r ≡ chi 64 a ⌝ }
 {
+    let r4 = chi_row([a[20], a[21], a[22], a[23], a[24]]);
+    let r3 = chi_row([a[15], a[16], a[17], a[18], a[19]]);
+    let r2 = chi_row([a[10], a[11], a[12], a[13], a[14]]);
+    let r1 = chi_row([a[5], a[6], a[7], a[8], a[9]]);
+    let r0 = chi_row([a[0], a[1], a[2], a[3], a[4]]);
     [
-        a[0] ^ (!a[1] & a[2]),
-        a[1] ^ (!a[2] & a[3]),
-        a[2] ^ (!a[3] & a[4]),
-        a[3] ^ (!a[4] & a[0]),
-        a[4] ^ (!a[0] & a[1]),
-        a[5] ^ (!a[6] & a[7]),
-        a[6] ^ (!a[7] & a[8]),
-        a[7] ^ (!a[8] & a[9]),
-        a[8] ^ (!a[9] & a[5]),
-        a[9] ^ (!a[5] & a[6]),
-        a[10] ^ (!a[11] & a[12]),
-        a[11] ^ (!a[12] & a[13]),
-        a[12] ^ (!a[13] & a[14]),
-        a[13] ^ (!a[14] & a[10]),
-        a[14] ^ (!a[10] & a[11]),
-        a[15] ^ (!a[16] & a[17]),
-        a[16] ^ (!a[17] & a[18]),
-        a[17] ^ (!a[18] & a[19]),
-        a[18] ^ (!a[19] & a[15]),
-        a[19] ^ (!a[15] & a[16]),
-        a[20] ^ (!a[21] & a[22]),
-        a[21] ^ (!a[22] & a[23]),
-        a[22] ^ (!a[23] & a[24]),
-        a[23] ^ (!a[24] & a[20]),
-        a[24] ^ (!a[20] & a[21]),
+        r0[0],
+        r0[1],
+        r0[2],
+        r0[3],
+        r0[4],
+        r1[0],
+        r1[1],
+        r1[2],
+        r1[3],
+        r1[4],
+        r2[0],
+        r2[1],
+        r2[2],
+        r2[3],
+        r2[4],
+        r3[0],
+        r3[1],
+        r3[2],
+        r3[3],
+        r3[4],
+        r4[0],
+        r4[1],
+        r4[2],
+        r4[3],
+        r4[4],
     ]
 }
 
