@@ -33,10 +33,10 @@ module _ (T : ℕ) (s : Session) (b : List ℕ) (place : ℕ) (o : List ℕ) (z 
   w = whole-at T b place h m n e
 
   -- the last rows of the table
-  abbrev last-rows : ℕ
+  abbrev pub last-rows : ℕ
   last-rows = pick (short (length o) (bodyLength b place)) 6 (pick (foreign s (headerAt b place) (cipherAt b place) (tagAt T b place)) 8 0)
 
-  table-is : openTable T s b place (length o) ≡ by last-rows (refused last-rows place) (accepted (nextAt T b place) [])
+  pub table-is : openTable T s b place (length o) ≡ by last-rows (refused last-rows place) (accepted (nextAt T b place) [])
   unfolding openTable by
   table-is = rw (z, e)
 

@@ -1,12 +1,13 @@
 // Bundles, version 1: the pairs of one session, end to end in one buffer.
 // A bundle is surveyed as it stands; its entries are opened one by one, and it is started and added to in place.
 ghost use mathlib.Core.Path.{_≡_};
-ghost use Prim.Native.Nat.{_+_, _≤_};
+ghost use Prim.Native.Nat.{_+_, _*_, _≤_};
 ghost use lib.ListN.{length};
 ghost use lib.Seq.{sets};
+ghost use Rattle.duplex.specs.Strings.{blocks};
 ghost use Rattle.spongewrap.specs.Refusals.{first};
-ghost use Rattle.spongewrap.specs.Sessions.{next};
-ghost use Rattle.bundle.specs.Format.{tagLength, entryOf, size, entryAt, badLabel};
+ghost use Rattle.spongewrap.specs.Sessions.{cost, next};
+ghost use Rattle.bundle.specs.Format.{bundleRate, tagLength, entryOf, size, entryAt, badLabel};
 ghost use Rattle.bundle.specs.Answers.{refused, own, entryTold, surveyTold, seen};
 ghost use Rattle.bundle.specs.Survey.{unlabelled, entriesFrom, surveys};
 ghost use Rattle.bundle.specs.Opening.{opens};
@@ -28,9 +29,10 @@ const RATE: u16 = 136;
 
 const TAG: usize = 16;
 
-// The version and the stated length stand before the entries, two lengths before an entry's parts.
-const HEAD: usize = 5;
+// Where entry zero stands: the version and the stated length come first.
+pub const FIRST: usize = 5;
 
+// The two lengths that stand before an entry's parts.
 const LENGTHS: usize = 6;
 
 const MOST_BYTES: usize = 16_777_216;
@@ -71,7 +73,7 @@ pub struct Answer {
 }
 
 // A refusal that is not answered yet; number 0 refuses nothing.
-pub struct Refusal {
+struct Refusal {
     pub number: u8,
     pub place: usize,
 }
@@ -139,6 +141,23 @@ fn entry_refusal(entry: Entry, place: usize) -> Refusal
     }
 }
 
+// How many blocks n bytes take.
+fn blocks_of(n: usize) -> usize
+    ensures { λ r. ⌜ (r ≡ blocks bundleRate n) × (135 * r ≤ n + 135) ⌝ }
+{
+    if n == 0 {
+        return 1;
+    }
+    (n - 1) / (RATE as usize - 1) + 1
+}
+
+// The permutation calls that an entry adds to its session's, by the lengths of its header and body.
+pub fn calls_of(header: usize, body: usize) -> usize
+    ensures { λ r. ⌜ (r ≡ cost bundleRate tagLength header body) × (r ≤ header + body + 2) ⌝ }
+{
+    blocks_of(header) + blocks_of(body) + (blocks_of(TAG) - 1)
+}
+
 // Whether a label's length is out of range.
 fn bad_label(label: usize) -> bool
     ensures { λ r. ⌜ r ≡ badLabel label ⌝ }
@@ -166,7 +185,7 @@ fn is_unlabelled(entry: Entry) -> bool
 fn survey_entries(bundle: &[u8]) -> Surveyed
     ensures { λ r. ⌜ surveyTold r ≡ entriesFrom tagLength (now (bundle .entry)) 5 0 ⌝ }
 {
-    let mut place = HEAD;
+    let mut place = FIRST;
     let mut count = 0;
     while place < bundle.len() {
         if count == MOST_ENTRIES {
@@ -191,10 +210,10 @@ fn survey_entries(bundle: &[u8]) -> Surveyed
         place = next;
         count += 1;
     }
-    if is_unlabelled(entry_at(bundle, HEAD)) {
+    if is_unlabelled(entry_at(bundle, FIRST)) {
         return Surveyed::Refused {
             number: NO_LABEL,
-            place: HEAD,
+            place: FIRST,
         };
     }
     Surveyed::Entries(count)
@@ -217,14 +236,14 @@ pub fn survey(bundle: &[u8]) -> Surveyed
             place: 0,
         };
     }
-    if bytes < HEAD {
+    if bytes < FIRST {
         return Surveyed::Refused {
             number: MALFORMED,
             place: 1,
         };
     }
     let stated = fields::read_u32(bundle, 1) as usize;
-    if stated != bytes - HEAD {
+    if stated != bytes - FIRST {
         return Surveyed::Refused {
             number: MALFORMED,
             place: 1,
@@ -309,7 +328,7 @@ fn start_refusal(s: Session, label: usize, room: usize) -> u8
     if bad_label(label) {
         return NO_LABEL;
     }
-    if room < HEAD + entry_size(label, 0) {
+    if room < FIRST + entry_size(label, 0) {
         return refusal::ROOM;
     }
     0
@@ -325,7 +344,7 @@ pub fn start(s: Session, label: &[u8], bundle: &mut [u8]) -> Answer
     }
     bundle[0] = VERSION;
     fields::put_u32(bundle, 1, entry_size(label.len(), 0) as u32);
-    let session = write_entry(s, label, b"", bundle, HEAD);
+    let session = write_entry(s, label, b"", bundle, FIRST);
     answered(0, 0, session)
 }
 
@@ -334,7 +353,7 @@ fn end_of(bundle: &[u8]) -> usize
     requires { ⌜ 5 ≤ length (now bundle) ⌝ }
     ensures { λ r. ⌜ r ≡ endOf (now (bundle .entry)) ⌝ }
 {
-    HEAD + fields::read_u32(bundle, 1) as usize
+    FIRST + fields::read_u32(bundle, 1) as usize
 }
 
 // The refusals of an add, by the lengths of its header and body. Of the buffer, the first five bytes are read.
@@ -366,7 +385,7 @@ fn buffer_refusal(bundle: &[u8], header: usize, body: usize) -> Refusal
     ensures { λ r. ⌜ refused (r .number) (r .place) ≡ bufferTable tagLength (now (bundle .entry)) header body ⌝ }
 {
     let room = bundle.len();
-    if room < HEAD {
+    if room < FIRST {
         return Refusal {
             number: MALFORMED,
             place: 0,
@@ -411,6 +430,6 @@ pub fn add(s: Session, header: &[u8], body: &[u8], bundle: &mut [u8]) -> Answer
     let end = end_of(&bundle[..]);
     let session = write_entry(s, header, body, bundle, end);
     let raised = end + entry_size(header.len(), body.len());
-    fields::put_u32(bundle, 1, (raised - HEAD) as u32);
+    fields::put_u32(bundle, 1, (raised - FIRST) as u32);
     answered(0, 0, session)
 }
