@@ -5,6 +5,16 @@ DIST = target/dist
 STRICT = -Wall -Wextra -Werror -pedantic -Iinclude
 .PHONY: demo test lib bench soak compare probe desk
 
+# The front desk's day, and the same bundle as the lister sees it. The first time, what the programs stand on is proved: some minutes.
+demo:
+	@mkdir -p target/demo && rm -f target/demo/bundle
+	@echo 'proving and building what the programs stand on ..'
+	@rt check frontdesk lister > target/demo/log 2>&1 || { tail -n 40 target/demo/log; false; }
+	@cd target/demo && ../bin/frontdesk
+	@echo
+	@echo 'The lister, on the same bundle:'
+	@./target/bin/lister < target/demo/bundle
+
 test:
 	bash .ci/run
 

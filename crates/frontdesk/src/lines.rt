@@ -84,9 +84,9 @@ pub fn print_refused(number: u8, is_unchanged: bool) {
     print(b"refused ");
     print_number(number as u64);
     if is_unchanged {
-        print(b", and nothing is released\n");
+        print(b", and the lent buffer is unchanged\n");
     } else {
-        print(b", AND BYTES ARE RELEASED\n");
+        print(b", AND THE LENT BUFFER IS CHANGED\n");
     }
 }
 

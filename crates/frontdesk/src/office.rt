@@ -25,8 +25,8 @@ pub fn end_of(bytes: &[u8]) -> usize
     end
 }
 
-// The line of an entry that was sealed at a place, and the session to go on with.
-fn told(answer: Answer, entry: u32, place: usize, header: &[u8], body: usize) -> Session {
+// Prints the line of an entry that was sealed at a place, and gives the session to go on with.
+fn show_sealed(answer: Answer, entry: u32, place: usize, header: &[u8], body: usize) -> Session {
     let session = answer.session;
     lines::print_entry(entry as u64, place, header, body, session.calls);
     lines::print_sealed(answer.number);
@@ -37,13 +37,13 @@ fn told(answer: Answer, entry: u32, place: usize, header: &[u8], body: usize) ->
 fn add(s: Session, header: &[u8], body: &[u8], bytes: &mut [u8]) -> Session {
     let place = end_of(&bytes[..]);
     let answer = bundle::add(s, header, body, bytes);
-    told(answer, s.pairs, place, header, body.len())
+    show_sealed(answer, s.pairs, place, header, body.len())
 }
 
 // Starts a bundle, and prints the line of its label.
 fn start(s: Session, label: &[u8], bytes: &mut [u8]) -> Session {
     let answer = bundle::start(s, label, bytes);
-    told(answer, s.pairs, bundle::FIRST, label, 0)
+    show_sealed(answer, s.pairs, bundle::FIRST, label, 0)
 }
 
 // Two entries under one header.

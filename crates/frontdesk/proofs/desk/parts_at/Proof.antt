@@ -1,18 +1,18 @@
--- The parts of a whole entry, from its end on: the tag, the body, the header.
+-- A whole entry ends within the bytes, and its parts are as long together as it is.
 use mathlib.Core.Path.{sym, _∙_}
 use native.Mathlib.Omega.{arith}
 use Rattle.bundle.proofs.Entries.{whole-at}
 use borrow.Author.Needs.{needs}
-use Rattle.frontdesk.proofs.desk.has_label.Statement.{statement}
-use Rattle.frontdesk.proofs.desk.has_label.Tie as tie
+use Rattle.frontdesk.proofs.desk.parts_at.Statement.{statement}
+use Rattle.frontdesk.proofs.desk.parts_at.Tie as tie
 
-sub-end : tie.Need-sub-end
-sub-end c =
+sub-tag : tie.Need-sub-tag
+sub-tag c =
     let w = whole-at _ _ _ _ _ _ (sym (c .before .before .before .entry-at .ensures) ∙ c .before .entry .given .1) in
     omega arith
 
-sub-end-2 : tie.Need-sub-end-2
-sub-end-2 c =
+sub-cipher : tie.Need-sub-cipher
+sub-cipher c =
     let w = whole-at _ _ _ _ _ _ (sym (c .before .before .before .entry-at .ensures) ∙ c .before .entry .given .1) in
     omega arith
 
@@ -21,24 +21,20 @@ sub-start c =
     let w = whole-at _ _ _ _ _ _ (sym (c .before .before .before .entry-at .ensures) ∙ c .before .entry .given .1) in
     omega arith
 
-part-same-end : tie.Need-part-same-end
-part-same-end c =
+returns-2 : tie.Need-returns-2
+returns-2 c =
     let w = whole-at _ _ _ _ _ _ (sym (c .before .before .before .entry-at .ensures) ∙ c .before .entry .given .1) in
-    omega arith
+    (omega arith, omega arith, omega arith, omega arith)
 
-pub has-label-spec : {M : Type 1} → statement M
-has-label-spec =
+pub parts-at-spec : {M : Type 1} → statement M
+parts-at-spec =
     tie.close
     (tie.spec
     (λ c κs. search needs)
     (λ c. search needs)
     (λ c. search needs)
     (λ c. search needs)
-    sub-end
-    sub-end-2
+    sub-tag
+    sub-cipher
     sub-start
-    (λ c. search needs)
-    (λ c. search needs)
-    part-same-end
-    (λ c κs. search needs)
-    (λ c. search needs))
+    returns-2)
