@@ -40,7 +40,7 @@ unfolding settled
 refused zero s s′ o x d = absurd (d refl)
 refused (suc n) s s′ o x d = refl
 
-accepted : (n : ℕ) (s s′ : Session) (o x : List ℕ) → n ≡ 0 → seen (record { number = 0; session = s′ }) (x ++ drop (length x) o) ≡ settled n s o s′ x
+pub accepted : (n : ℕ) (s s′ : Session) (o x : List ℕ) → n ≡ 0 → seen (record { number = 0; session = s′ }) (x ++ drop (length x) o) ≡ settled n s o s′ x
 unfolding settled
 accepted n s s′ o x e = rw e
 

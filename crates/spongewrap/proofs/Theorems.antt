@@ -14,7 +14,7 @@ use Rattle.spongewrap.specs.Sessions.{none, opened, opens, next, sealing
 use Rattle.spongewrap.specs.declared.Session.{Session}
 use Rattle.spongewrap.proofs.Passed.{Fits, wrap-fits, unwrap-fits, may-unwrap, at-tag, all-but-tag}
 use Rattle.spongewrap.proofs.Same.{same-eq, same-is, other-is}
-use Rattle.spongewrap.proofs.Settle.{length-sealing, length-tagOf, length-wrapped, length-recovered}
+use Rattle.spongewrap.proofs.Settle.{accepted, length-sealing, length-tagOf, length-wrapped, length-recovered}
 
 -- ---- the numbers
 
@@ -87,10 +87,6 @@ eights-alike s o h c t h′ c′ t′ e f = eight _ s _ o _ e ∙ sym (eight _ s
 
 -- ---- what an accepted call leaves
 
-done : (n : ℕ) (s s′ : Session) (o x : List ℕ) → n ≡ 0 → settled n s o s′ x ≡ seen (record { number = 0; session = s′ }) (x ++ drop (length x) o)
-unfolding settled
-done n s s′ o x e = rw e
-
 -- x was written over the first n bytes of o, each later byte keeps its value, and the length is what it was
 pub record Written (n : ℕ) (o x v : List ℕ) : Type 0 where
   pub first : take n v ≡ x
@@ -109,13 +105,13 @@ over n o x e l =
 pub wrapped-is : (s : Session) (h b o : List ℕ) → wraps s h b o .answer .number ≡ 0
     → wraps s h b o ≡ seen (record { number = 0; session = next s h b }) ((sealing s h b ++ tagOf s h b) ++ drop (length (sealing s h b ++ tagOf s h b)) o)
 unfolding wraps
-wrapped-is s h b o e = done _ s (next s h b) o _ (sym (wrap-number s h b o) ∙ e)
+wrapped-is s h b o e = sym (accepted _ s (next s h b) o _ (sym (wrap-number s h b o) ∙ e))
 
 -- An accepted unwrap, whole.
 pub unwrapped-is : (s : Session) (h c t o : List ℕ) → unwraps s h c t o .answer .number ≡ 0
     → unwraps s h c t o ≡ seen (record { number = 0; session = next s h (recovered s h c) }) (recovered s h c ++ drop (length (recovered s h c)) o)
 unfolding unwraps
-unwrapped-is s h c t o e = done _ s (next s h (recovered s h c)) o _ (sym (unwrap-number s h c t o) ∙ e)
+unwrapped-is s h c t o e = sym (accepted _ s (next s h (recovered s h c)) o _ (sym (unwrap-number s h c t o) ∙ e))
 
 -- An accepted wrap writes only the ciphertext and the tag, over the first bytes of the lent output.
 pub wrap-first : (s : Session) (h b o : List ℕ) → wraps s h b o .answer .number ≡ 0
