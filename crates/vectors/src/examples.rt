@@ -1,5 +1,6 @@
 // The worked examples of document 01 that are run and not proved, a line for each.
 use crate::tally;
+use spongewrap::Session;
 
 // SHA3-256 of 135 bytes is what their one block gives that is padded by hand: suffix and last bit meet in byte 135.
 fn ends_in_0x86() -> bool {
@@ -12,10 +13,30 @@ fn ends_in_0x86() -> bool {
     check::same(&sponge::sha3_256(&message), &digest)
 }
 
-// Every example. Those of sessions come here: a key of 15, 16, 256, 257 bytes gives 2, open, open, 2.
+// What an open with a key of n bytes answers.
+fn opened_by(key: &[u8]) -> u8 {
+    let answer = spongewrap::open(key, Session::RATE, Session::TAG);
+    answer.number
+}
+
+// A key of 15, 16, 256, 257 bytes: 2, open, open, 2.
+fn keys_have_limits() -> bool {
+    let key = [0x41u8; 257];
+    let short = opened_by(&key[0..15]);
+    let least = opened_by(&key[0..16]);
+    let most = opened_by(&key[0..256]);
+    let long = opened_by(&key[0..257]);
+    short == 2 && least == 0 && most == 0 && long == 2
+}
+
+// Every example, a line each.
 pub fn print_all() {
     tally::print_example(
         b"SHA3-256 of 135 bytes: last block byte 135 is 0x86",
         ends_in_0x86(),
+    );
+    tally::print_example(
+        b"Key of 15, 16, 256, 257 bytes: 2, open, open, 2   ",
+        keys_have_limits(),
     );
 }
