@@ -1,10 +1,9 @@
 // Bundles, version 1: the pairs of one session, end to end in one buffer.
 // A bundle is surveyed as it stands; its entries are opened one by one, and it is started and added to in place.
 ghost use mathlib.Core.Path.{_≡_};
-ghost use Prim.Native.Nat.{_+_, _*_, _≤_};
+ghost use Prim.Native.Nat.{_+_, _≤_};
 ghost use lib.ListN.{length};
 ghost use lib.Seq.{sets};
-ghost use Rattle.duplex.specs.Strings.{blocks};
 ghost use Rattle.spongewrap.specs.Refusals.{first};
 ghost use Rattle.spongewrap.specs.Sessions.{cost, next};
 ghost use Rattle.bundle.specs.Format.{bundleRate, tagLength, entryOf, size, entryAt, badLabel};
@@ -27,7 +26,7 @@ const VERSION: u8 = 1;
 
 const RATE: u16 = 136;
 
-const TAG: usize = 16;
+pub const TAG: usize = 16;
 
 // Where entry zero stands: the version and the stated length come first.
 pub const FIRST: usize = 5;
@@ -38,10 +37,6 @@ const LENGTHS: usize = 6;
 const MOST_BYTES: usize = 16_777_216;
 
 const MOST_ENTRIES: usize = 65_535;
-
-const MOST_HEADER: usize = 65_535;
-
-const MOST_BODY: usize = 1_048_576;
 
 // What stands at a place: a whole entry, or why there is none.
 pub enum Entry {
@@ -99,7 +94,7 @@ pub fn entry_at(bundle: &[u8], place: usize) -> Entry
     }
     let header = fields::read_u16(bundle, place) as usize;
     let body = fields::read_u32(bundle, place + 2) as usize;
-    if MOST_BODY < body {
+    if refusal::MOST_BODY < body {
         return Entry::Large;
     }
     let size = entry_size(header, body);
@@ -141,21 +136,14 @@ fn entry_refusal(entry: Entry, place: usize) -> Refusal
     }
 }
 
-// How many blocks n bytes take.
-fn blocks_of(n: usize) -> usize
-    ensures { λ r. ⌜ (r ≡ blocks bundleRate n) × (135 * r ≤ n + 135) ⌝ }
-{
-    if n == 0 {
-        return 1;
-    }
-    (n - 1) / (RATE as usize - 1) + 1
-}
-
 // The permutation calls that an entry adds to its session's, by the lengths of its header and body.
-pub fn calls_of(header: usize, body: usize) -> usize
+pub fn calls_of(header: usize, body: usize) -> u64
     ensures { λ r. ⌜ (r ≡ cost bundleRate tagLength header body) × (r ≤ header + body + 2) ⌝ }
 {
-    blocks_of(header) + blocks_of(body) + (blocks_of(TAG) - 1)
+    let rate = RATE as usize;
+    spongewrap::block_count(header, rate)
+        + spongewrap::block_count(body, rate)
+        + (spongewrap::block_count(TAG, rate) - 1)
 }
 
 // Whether a label's length is out of range.
@@ -364,13 +352,13 @@ fn add_refusal(s: Session, bundle: &[u8], header: usize, body: usize) -> Refusal
     if number != 0 {
         return Refusal { number, place: 0 };
     }
-    if MOST_HEADER < header {
+    if refusal::MOST_HEADER < header {
         return Refusal {
             number: refusal::HEADER,
             place: 0,
         };
     }
-    if MOST_BODY < body {
+    if refusal::MOST_BODY < body {
         return Refusal {
             number: refusal::BODY,
             place: 0,

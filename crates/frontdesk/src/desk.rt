@@ -7,7 +7,6 @@ use crate::office;
 use bundle::Entry;
 use bundle::Surveyed;
 use spongewrap::Session;
-use spongewrap::running;
 
 // What a lent body buffer holds beforehand.
 const BLANK: u8 = 0x2e;
@@ -51,7 +50,7 @@ fn parts_at(bytes: &[u8], place: usize) -> Parts
             end: 0,
         };
     };
-    let tag = next - Session::TAG as usize;
+    let tag = next - bundle::TAG;
     let cipher = tag - body;
     let start = cipher - header;
     Parts {

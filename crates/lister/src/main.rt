@@ -7,33 +7,33 @@ use libc::STDIN_FILENO;
 use libc::STDOUT_FILENO;
 use spongewrap::refusal;
 
-fn print(text: &[u8], n: usize) {
+fn print(text: &[u8], n: u64) {
     io::write_all(STDOUT_FILENO, text);
-    io::print_decimal(STDOUT_FILENO, n as u64);
+    io::print_decimal(STDOUT_FILENO, n);
 }
 
 fn print_refusal(number: u8, place: usize) {
-    print(b"refused ", number as usize);
-    print(b" at ", place);
+    print(b"refused ", number as u64);
+    print(b" at ", place as u64);
     io::write_all(STDOUT_FILENO, b"\n");
 }
 
 fn print_first(bytes: usize, entries: usize) {
-    print(b"version 1 bytes ", bytes);
-    print(b" entries ", entries);
+    print(b"version 1 bytes ", bytes as u64);
+    print(b" entries ", entries as u64);
     io::write_all(STDOUT_FILENO, b"\n");
 }
 
-fn print_entry(k: usize, place: usize, header: usize, body: usize, calls: usize) {
-    print(b"", k);
-    print(b" at ", place);
-    print(b" header ", header);
-    print(b" body ", body);
+fn print_entry(k: usize, place: usize, header: usize, body: usize, calls: u64) {
+    print(b"", k as u64);
+    print(b" at ", place as u64);
+    print(b" header ", header as u64);
+    print(b" body ", body as u64);
     print(b" calls ", calls);
     io::write_all(STDOUT_FILENO, b"\n");
 }
 
-fn print_last(calls: usize) {
+fn print_last(calls: u64) {
     print(b"calls ", calls);
     io::write_all(STDOUT_FILENO, b"\n");
 }

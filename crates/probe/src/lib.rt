@@ -77,6 +77,48 @@ pub extern "C" fn probe_unwrap(
     image::unwrap(image, header, ciphertext, tag, body)
 }
 
+// The same through the running session.
+#[no_mangle]
+pub extern "C" fn probe_running_wrap(
+    image: &mut [u8],
+    header: &[u8],
+    body: &[u8],
+    out: &mut [u8],
+) -> u8 {
+    if image.len() != 216 {
+        return LENGTH;
+    }
+    let session = image::session_of(&image[..]);
+    kept(running::wrap_lent(session, header, body, out), image)
+}
+
+#[no_mangle]
+pub extern "C" fn probe_running_unwrap(
+    image: &mut [u8],
+    header: &[u8],
+    ciphertext: &[u8],
+    tag: &[u8],
+    body: &mut [u8],
+) -> u8 {
+    if image.len() != 216 {
+        return LENGTH;
+    }
+    let session = image::session_of(&image[..]);
+    kept(
+        running::unwrap_lent(session, header, ciphertext, tag, body),
+        image,
+    )
+}
+
+// The session that a call left goes into the image, after a refusal too.
+fn kept(answer: spongewrap::Answer, image: &mut [u8]) -> u8
+    requires { ⌜ length (now image) ≡ 216 ⌝ }
+{
+    let session = answer.session;
+    image::put_session(session, image);
+    answer.number
+}
+
 // An answer with its place in one number: the place stands above the low byte, less what does not fit there.
 fn told(number: u8, place: usize) -> u64 {
     number as u64 + place as u64 % 0x0100_0000_0000_0000 * 0x100

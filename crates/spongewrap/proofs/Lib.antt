@@ -6,6 +6,3 @@ pub mod Theorems
 pub mod Outcomes
 pub mod Outputs
 pub mod Histories
-pub mod Examples
-pub mod Duds
-pub mod Held

@@ -20,9 +20,6 @@ use Rattle.spongewrap.proofs.refusal.of_unwrap.Reads as of-unwrap
 parts : (r r′ : Answer) (o o′ : List ℕ) → seen r o ≡ seen r′ o′ → (r ≡ r′) × (o ≡ o′)
 parts r r′ o o′ e = (ap (λ (v : Seen). v .answer) e, ap (λ (v : Seen). v .out) e)
 
-fields : {n m : ℕ} {t u : Session} {x y : List ℕ} → seen (record { number = n; session = t }) x ≡ seen (record { number = m; session = u }) y → (n ≡ m) × (t ≡ u) × (x ≡ y)
-fields e = (ap (λ (v : Seen). v .answer .number) e, ap (λ (v : Seen). v .answer .session) e, ap (λ (v : Seen). v .out) e)
-
 pub default-open-outcome : (κs : Lfts 1) (a x y s t : _) → default.Post κs a x s → default.Post κs a y t → x ≡ y
 default-open-outcome κs a x y s t e h = e ∙ sym h
 
@@ -36,16 +33,6 @@ wrap-outcome κs a x y s t e h = parts x y _ _ (e ∙ sym h)
 pub unwrap-outcome : (κs : Lfts 4) (a x y s t : _) → unwrap.Post κs a x s → unwrap.Post κs a y t
     → (x ≡ y) × (now (s .1 .1 .1 .1 .0) ≡ now (t .1 .1 .1 .1 .0))
 unwrap-outcome κs a x y s t e h = parts x y _ _ (e ∙ sym h)
-
--- ---- the running session: its contracts are these equations over what stands at exit
-
-pub wrap-in-place-outcome : (s : Session) (h b o : List ℕ) (n m : ℕ) (t u : Session) (x y : List ℕ)
-    → seen (record { number = n; session = t }) x ≡ wraps s h b o → seen (record { number = m; session = u }) y ≡ wraps s h b o → (n ≡ m) × (t ≡ u) × (x ≡ y)
-wrap-in-place-outcome s h b o n m t u x y e f = fields (e ∙ sym f)
-
-pub unwrap-in-place-outcome : (s : Session) (h c k o : List ℕ) (n m : ℕ) (t u : Session) (x y : List ℕ)
-    → seen (record { number = n; session = t }) x ≡ unwraps s h c k o → seen (record { number = m; session = u }) y ≡ unwraps s h c k o → (n ≡ m) × (t ≡ u) × (x ≡ y)
-unwrap-in-place-outcome s h c k o n m t u x y e f = fields (e ∙ sym f)
 
 -- ---- the refusals' numbers
 

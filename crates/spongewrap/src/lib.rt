@@ -1,7 +1,6 @@
 // SpongeWrap sessions: a key opens one, and pairs of a header and a body are sealed and opened in turn.
 // Every call answers a number, 0 or the refusal's, and a session: the advanced one, or the one that it took.
 pub mod refusal; // refusal.rt: the numbers, and the tests of each call in their order
-pub mod running; // running.rt: the session advanced where it stands
 
 ghost use mathlib.Core.Path.{_≡_};
 ghost use mathlib.Core.List.{_++_};
@@ -77,7 +76,7 @@ fn no_session() -> Session
 }
 
 // How many blocks n bytes take.
-fn block_count(n: usize, rate: usize) -> u64
+pub fn block_count(n: usize, rate: usize) -> u64
     requires { ⌜ 1 < rate ⌝ }
     ensures { λ r. ⌜ (r ≡ blocks rate n) × (r ≤ n + 1) ⌝ }
 {

@@ -21,9 +21,9 @@ pub const FULL: u8 = 7;
 
 pub const TAG: u8 = 8;
 
-const MOST_HEADER: usize = 65_535;
+pub const MOST_HEADER: usize = 65_535;
 
-const MOST_BODY: usize = 1_048_576;
+pub const MOST_BODY: usize = 1_048_576;
 
 const MOST_PAIRS: u32 = 65_535;
 

@@ -7,4 +7,5 @@
 pub mod bundles;
 pub mod hashes;
 pub mod permutation;
+pub mod running;
 pub mod sessions;

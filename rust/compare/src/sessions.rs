@@ -1,5 +1,7 @@
 //! The exports of sessions, each over a session's image of 216 bytes.
 
+exports::pair_calls!(probe_wrap, probe_unwrap);
+
 extern "C" {
     fn probe_open(
         rate: u16,
@@ -8,28 +10,6 @@ extern "C" {
         key_length: usize,
         image: *mut u8,
         image_length: usize,
-    ) -> u8;
-    fn probe_wrap(
-        image: *mut u8,
-        image_length: usize,
-        header: *const u8,
-        header_length: usize,
-        body: *const u8,
-        body_length: usize,
-        out: *mut u8,
-        out_length: usize,
-    ) -> u8;
-    fn probe_unwrap(
-        image: *mut u8,
-        image_length: usize,
-        header: *const u8,
-        header_length: usize,
-        ciphertext: *const u8,
-        ciphertext_length: usize,
-        tag: *const u8,
-        tag_length: usize,
-        body: *mut u8,
-        body_length: usize,
     ) -> u8;
 }
 
@@ -45,50 +25,6 @@ pub fn open(rate: u16, tag: u16, key: &[u8], image: &mut [u8]) -> u8 {
             key.len(),
             image.as_mut_ptr(),
             image.len(),
-        )
-    }
-}
-
-/// Wraps a pair: ciphertext, then tag, go to the first bytes of `out`.
-#[inline]
-pub fn wrap(image: &mut [u8], header: &[u8], body: &[u8], out: &mut [u8]) -> u8 {
-    // SAFETY: each pointer and length are those of one slice, lent for the call.
-    unsafe {
-        probe_wrap(
-            image.as_mut_ptr(),
-            image.len(),
-            header.as_ptr(),
-            header.len(),
-            body.as_ptr(),
-            body.len(),
-            out.as_mut_ptr(),
-            out.len(),
-        )
-    }
-}
-
-/// Unwraps a pair: the plaintext goes to the first bytes of `body`.
-#[inline]
-pub fn unwrap(
-    image: &mut [u8],
-    header: &[u8],
-    ciphertext: &[u8],
-    tag: &[u8],
-    body: &mut [u8],
-) -> u8 {
-    // SAFETY: each pointer and length are those of one slice, lent for the call.
-    unsafe {
-        probe_unwrap(
-            image.as_mut_ptr(),
-            image.len(),
-            header.as_ptr(),
-            header.len(),
-            ciphertext.as_ptr(),
-            ciphertext.len(),
-            tag.as_ptr(),
-            tag.len(),
-            body.as_mut_ptr(),
-            body.len(),
         )
     }
 }

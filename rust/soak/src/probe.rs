@@ -4,6 +4,7 @@ use crate::made_up::{around, message, once_in, room};
 use crate::{sessions, Trial};
 use compare::hashes::{sha3_256, shake128, shake256};
 use compare::permutation::{permute, permute_times};
+use compare::running;
 use compare::sessions::{open, unwrap, wrap};
 use inputs::hashes::{digested, filled, Shake};
 use inputs::permutation::permuted;
@@ -14,8 +15,14 @@ use reference::sponge;
 /// The archive's two calls on pairs.
 const CALLS: Calls = Calls { wrap, unwrap };
 
+/// The same through the running session.
+const RUNNING: Calls = Calls {
+    wrap: running::wrap,
+    unwrap: running::unwrap,
+};
+
 /// Each export.
-pub const TRIALS: [Trial; 8] = [
+pub const TRIALS: [Trial; 10] = [
     ("probe_permute", try_permute),
     ("probe_permute_times", try_permute_times),
     ("probe_sha3_256", try_sha3_256),
@@ -24,6 +31,12 @@ pub const TRIALS: [Trial; 8] = [
     ("probe_open", try_open),
     ("probe_wrap", |random| sessions::wrap(random, CALLS)),
     ("probe_unwrap", |random| sessions::unwrap(random, CALLS)),
+    ("probe_running_wrap", |random| {
+        sessions::wrap(random, RUNNING)
+    }),
+    ("probe_running_unwrap", |random| {
+        sessions::unwrap(random, RUNNING)
+    }),
 ];
 
 /// A state, of another length now and then.

@@ -33,7 +33,6 @@ parts-at-spec =
     (λ c κs. search needs)
     (λ c. search needs)
     (λ c. search needs)
-    (λ c. search needs)
     sub-tag
     sub-cipher
     sub-start

@@ -39,22 +39,22 @@ use denote.Triple.Spec.{Meets, tripleOf}
 use denote.Triple.Table.{entered, cited}
 use denote.Triple.Walked.{says, Stays, stay-ref, stay-none-slice, gave-slice, walkOf, AllGo, goes-ref, goes-none-slice, goes-gave-slice, Walks, ends-at, walked, walk-meets}
 use denote.Exit.{yes}
 use Rattle.spongewrap.specs.Sessions.{seen, wraps}
 use Rattle.spongewrap.specs.declared.Session.{Session}
 use Rattle.spongewrap.specs.declared.Answer.{Answer}
 use Rattle.spongewrap.proofs.Session as T
 use Rattle.spongewrap.proofs.Session.Laws as T′
 use Rattle.spongewrap.proofs.Answer as D
 use Rattle.spongewrap.proofs.Answer.Laws as D′
-use Rattle.spongewrap.proofs.Held.{vals, session-of, number-of}
+use Rattle.running.proofs.Held.{vals, session-of, number-of}
 use Rattle.spongewrap.proofs.wrap as callee
 use Rattle.spongewrap.proofs.wrap.Symbol as callee-def
 use Rattle.spongewrap.proofs.wrap.Symbol.{name as #spongewrap·wrap}
 use Rattle.spongewrap.proofs.wrap.Met as callee-thm
-use Rattle.spongewrap.proofs.running.wrap_in_place.Key.{name as #spongewrap·running·wrap-in-place}
-use Rattle.spongewrap.proofs.running.wrap_in_place as thin
-use Rattle.spongewrap.proofs.running.wrap_in_place.Statement as stated
-use Rattle.spongewrap.proofs.running.wrap_in_place.Code as code
+use Rattle.running.proofs.wrap_in_place.Key.{name as #running·wrap-in-place}
+use Rattle.running.proofs.wrap_in_place as thin
+use Rattle.running.proofs.wrap_in_place.Statement as stated
+use Rattle.running.proofs.wrap_in_place.Code as code
 
 abbrev stayed : Stays (thin.ended .signature .params) (thin.ended .kept)
 stayed = (stay-ref (0 ∷ []) tt (plain (λ _. T.the-row)), (stay-none-slice (1 ∷ []) tt (plain (λ _. u8)) yes, (stay-none-slice (2 ∷ []) tt (plain (λ _. u8)) yes, (gave-slice (3 ∷ []) tt (plain (λ _. u8)), tt))))
@@ -210,6 +210,6 @@ pub wrap-in-place-spec : {M : Type 1} → stated.statement M
 unfolding code.routine tablesOf
 wrap-in-place-spec 𝓤 H 𝓜 𝓖 𝓡 =
     entered 𝓤 H (tripleOf 𝓤 H (𝓖 .A) thin.signature (thin.spec 𝓤 H (𝓖 .A) (𝓜 .mem) (𝓡 .run)))
-    (tables 𝓤 H 𝓜 𝓡 code.env .C) (tables 𝓤 H 𝓜 𝓡 code.env .Λ) #spongewrap·running·wrap-in-place code.function (code.unfolded 𝓤 H 𝓜 𝓡)
+    (tables 𝓤 H 𝓜 𝓡 code.env .C) (tables 𝓤 H 𝓜 𝓡 code.env .Λ) #running·wrap-in-place code.function (code.unfolded 𝓤 H 𝓜 𝓡)
     (thin-meets 𝓤 H (𝓖 .A) (givenOf 𝓤 H 𝓜 𝓖) (𝓜 .mem) (𝓡 .run) (tablesOf 𝓤 H 𝓜 (tables 𝓤 H 𝓜 𝓡 code.env))
     (cited 𝓤 H (Callee 𝓤 H (𝓖 .A) (𝓜 .mem) (𝓡 .run)) 𝓜 𝓡 code.env #spongewrap·wrap callee-def.routine code.calls-spongewrap·wrap (callee-thm.met 𝓤 H 𝓜 𝓖 𝓡)))

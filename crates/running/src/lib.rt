@@ -1,15 +1,15 @@
 // The running session, advanced where it stands: thin functions over the calls that take a session and hand one back.
 ghost use mathlib.Core.Path.{_≡_};
 ghost use Rattle.spongewrap.specs.Sessions.{seen, wraps, unwraps};
-use crate::Answer;
-use crate::Session;
+use spongewrap::Answer;
+use spongewrap::Session;
 
 // Seals a pair and leaves the next session behind the reference. The answer is 0 or a refusal's number.
 pub fn wrap_in_place(s: &mut Session, header: &[u8], body: &[u8], out: &mut [u8]) -> u8
     ensures { λ r. ⌜ seen (record { number = r; session = now (s .exit) }) (now (out .exit)) ≡ wraps (now (s .entry)) (now (header .entry)) (now (body .entry)) (now (out .entry)) ⌝ }
 {
     let taken = *s;
-    let done = crate::wrap(taken, header, body, out);
+    let done = spongewrap::wrap(taken, header, body, out);
     *s = done.session;
     done.number
 }
@@ -25,7 +25,7 @@ pub fn unwrap_in_place(
     ensures { λ r. ⌜ seen (record { number = r; session = now (s .exit) }) (now (out .exit)) ≡ unwraps (now (s .entry)) (now (header .entry)) (now (cipher .entry)) (now (tag .entry)) (now (out .entry)) ⌝ }
 {
     let taken = *s;
-    let done = crate::unwrap(taken, header, cipher, tag, out);
+    let done = spongewrap::unwrap(taken, header, cipher, tag, out);
     *s = done.session;
     done.number
 }

@@ -40,21 +40,21 @@ use denote.Triple.Spec.{Meets, tripleOf}
 use denote.Triple.Table.{entered, cited}
 use denote.Triple.Walked.{says, Stays, stay-none, stay-none-slice, gave-slice, walkOf, AllGo, goes-none, goes-none-slice, goes-gave-slice, Walks, ends-at, walked, walk-meets}
 use denote.Exit.{yes}
 use Rattle.spongewrap.specs.Sessions.{seen, unwraps}
 use Rattle.spongewrap.specs.declared.Session.{Session}
 use Rattle.spongewrap.proofs.Session as T
 use Rattle.spongewrap.proofs.Session.Laws as T′
 use Rattle.spongewrap.proofs.Answer as D
 use Rattle.spongewrap.proofs.Answer.Laws as D′
-use Rattle.spongewrap.proofs.Held.{vals, val, answer, made, cell-in, cell-out}
-use Rattle.spongewrap.proofs.running.unwrap_in_place as thin
-use Rattle.spongewrap.proofs.running.unwrap_in_place.Symbol as thin-def
-use Rattle.spongewrap.proofs.running.unwrap_in_place.Symbol.{name as #spongewrap·running·unwrap-in-place}
-use Rattle.spongewrap.proofs.running.unwrap_in_place.Met as thin-thm
-use Rattle.spongewrap.proofs.running.unwrap_lent.Key.{name as #spongewrap·running·unwrap-lent}
-use Rattle.spongewrap.proofs.running.unwrap_lent as bridge
-use Rattle.spongewrap.proofs.running.unwrap_lent.Statement as stated
-use Rattle.spongewrap.proofs.running.unwrap_lent.Code as code
+use Rattle.running.proofs.Held.{vals, val, answer, made, cell-in, cell-out}
+use Rattle.running.proofs.unwrap_in_place as thin
+use Rattle.running.proofs.unwrap_in_place.Symbol as thin-def
+use Rattle.running.proofs.unwrap_in_place.Symbol.{name as #running·unwrap-in-place}
+use Rattle.running.proofs.unwrap_in_place.Met as thin-thm
+use Rattle.running.proofs.unwrap_lent.Key.{name as #running·unwrap-lent}
+use Rattle.running.proofs.unwrap_lent as bridge
+use Rattle.running.proofs.unwrap_lent.Statement as stated
+use Rattle.running.proofs.unwrap_lent.Code as code
 
 abbrev stayed : Stays (bridge.ended .signature .params) (bridge.ended .kept)
 stayed = (stay-none (λ _. T.the-row) yes, (stay-none-slice (0 ∷ []) tt (plain (λ _. u8)) yes, (stay-none-slice (1 ∷ []) tt (plain (λ _. u8)) yes, (stay-none-slice (2 ∷ []) tt (plain (λ _. u8)) yes, (gave-slice (3 ∷ []) tt (plain (λ _. u8)), tt)))))
@@ -134,7 +134,7 @@ module _ {M : Type 1} (𝓤 : URA M) (H : Heap 𝓤) (A : Atoms 𝓤) (W : Given
       says ! e $
       frame ! $ move ! (1 ∷ []) $ split ! $ move ! (1 ∷ []) $ split ! $ move ! (1 ∷ []) $ nothing ! $ move ! (4 ∷ 0 ∷ []) $ fjoin ! $ move ! (1 ∷ 0 ∷ []) $ fjoin ! $ move ! (1 ∷ 0 ∷ []) $ fjoin ! $ move ! (1 ∷ 0 ∷ []) $ fjoin ! $ owned ! T.the-row (Is T.the-row) (LL.makes T.the-type T′.the-plain 𝓤 H A) h _ was $ fjoin ! $ owned ! D.the-row (Is D.the-row) (LL.makes D.the-type D′.the-plain 𝓤 H A) (answer r z) _ (made r z fits is) $ move ! (1 ∷ 0 ∷ []) $ done !
 
-  module _ (C : Calls 𝓤 H) (Λ : Loops 𝓤 H) (fm : FmC 𝓤 H (W .laws) C) (known : Triple 𝓤 (C #spongewrap·running·unwrap-in-place) (Thin 𝓤 H A at-mem run)) where
+  module _ (C : Calls 𝓤 H) (Λ : Loops 𝓤 H) (fm : FmC 𝓤 H (W .laws) C) (known : Triple 𝓤 (C #running·unwrap-in-place) (Thin 𝓤 H A at-mem run)) where
     walk : Is (ShrSlice (named 0) κ₁ u8) header (v header ∷ []) → Is (ShrSlice (named 1) κ₂ u8) cipher (v cipher ∷ []) → Is (ShrSlice (named 2) κ₃ u8) tag (v tag ∷ []) → Room u8 (length (out .now))
         → ent 𝓤 (onEntry 𝓤 H A bridge.signature κs qs x at) (WpFn 𝓤 H C Λ code.function (val h ∷ v header ∷ v cipher ∷ v tag ∷ v out ∷ []) Post)
     walk is-header is-cipher is-tag room =
@@ -219,7 +219,7 @@ module _ {M : Type 1} (𝓤 : URA M) (H : Heap 𝓤) (A : Atoms 𝓤) (W : Given
         by ! (exits r (zs .0) (zs .1 .1 .1 .1 .0) e n (is .1) isz))))))))))))))))))))))
 
 module _ {M : Type 1} (𝓤 : URA M) (H : Heap 𝓤) (A : Atoms 𝓤) (W : Given 𝓤 H A) (at-mem : Memory → SProp 𝓤) (run : Routine → Fun 𝓤) where
-  bridge-walks : (C : Calls 𝓤 H) (Λ : Loops 𝓤 H) → FmC 𝓤 H (W .laws) C → Triple 𝓤 (C #spongewrap·running·unwrap-in-place) (Thin 𝓤 H A at-mem run) → Walks 𝓤 H A bridge.ended stayed (WpFn 𝓤 H C Λ code.function) (bridge.clauses 𝓤 H A at-mem run)
+  bridge-walks : (C : Calls 𝓤 H) (Λ : Loops 𝓤 H) → FmC 𝓤 H (W .laws) C → Triple 𝓤 (C #running·unwrap-in-place) (Thin 𝓤 H A at-mem run) → Walks 𝓤 H A bridge.ended stayed (WpFn 𝓤 H C Λ code.function) (bridge.clauses 𝓤 H A at-mem run)
   bridge-walks C Λ fm known = walked 𝓤 H A bridge.ended stayed (bridge.clauses 𝓤 H A at-mem run) (WpFn 𝓤 H C Λ code.function) (λ κs. (vals, (slice-vals, (slice-vals, (slice-vals, (slice-vals, tt))))))
       (λ κs. (LL.tells T.the-type T′.the-laws, (shr-slice-tells (named 0) (κs .0) u8, (shr-slice-tells (named 1) (κs .1 .0) u8, (shr-slice-tells (named 2) (κs .1 .1 .0) u8, (mut-slice-tells (named 3) (κs .1 .1 .1 .0) u8, tt))))))
       (λ κs qs bounds a g are. via 𝓤 _ (fst∗ 𝓤 _ (emp 𝓤)) (walk 𝓤 H A W at-mem run (κs .0) (κs .1 .0) (κs .1 .1 .0) (κs .1 .1 .1 .0) (qs .0) (qs .1 .0) (qs .1 .1 .0) (qs .1 .1 .1 .0) (a .0) (are .0) (a .1 .0) (a .1 .1 .0) (a .1 .1 .1 .0) (a .1 .1 .1 .1 .0) C Λ fm known (are .1 .0) (are .1 .1 .0) (are .1 .1 .1 .0) (are .1 .1 .1 .1 .0 .0 .1)))
@@ -227,7 +227,7 @@ module _ {M : Type 1} (𝓤 : URA M) (H : Heap 𝓤) (A : Atoms 𝓤) (W : Given
   goes : AllGo 𝓤 H A W 4 (bridge.signature .params) (bridge.ended .kept) stayed
   goes = (goes-none 𝓤 H A W 4 (λ _. T.the-row) yes (λ κs x f. refl), (goes-none-slice 𝓤 H A W 4 (0 ∷ []) tt (plain (λ _. u8)) yes, (goes-none-slice 𝓤 H A W 4 (1 ∷ []) tt (plain (λ _. u8)) yes, (goes-none-slice 𝓤 H A W 4 (2 ∷ []) tt (plain (λ _. u8)) yes, (goes-gave-slice 𝓤 H A W 4 3 tt (plain (λ _. u8)), tt)))))
 
-bridge-meets : {M : Type 1} (𝓤 : URA M) (H : Heap 𝓤) (A : Atoms 𝓤) → Given 𝓤 H A → (at-mem : Memory → SProp 𝓤) (run : Routine → Fun 𝓤) (𝓣 : Tables 𝓤 H) → Triple 𝓤 (𝓣 .C #spongewrap·running·unwrap-in-place) (Thin 𝓤 H A at-mem run)
+bridge-meets : {M : Type 1} (𝓤 : URA M) (H : Heap 𝓤) (A : Atoms 𝓤) → Given 𝓤 H A → (at-mem : Memory → SProp 𝓤) (run : Routine → Fun 𝓤) (𝓣 : Tables 𝓤 H) → Triple 𝓤 (𝓣 .C #running·unwrap-in-place) (Thin 𝓤 H A at-mem run)
     → Meets 𝓤 H A bridge.signature (WpFn 𝓤 H (𝓣 .C) (𝓣 .Λ) code.function) (bridge.spec 𝓤 H A at-mem run)
 bridge-meets 𝓤 H A W at-mem run 𝓣 known = walk-meets 𝓤 H A bridge.ended stayed W (goes 𝓤 H A W at-mem run) (bridge.clauses 𝓤 H A at-mem run) (WpFn 𝓤 H (𝓣 .C) (𝓣 .Λ) code.function) (WpFn-mono 𝓤 H (W .laws) 𝓣 code.function)
     (bridge-walks 𝓤 H A W at-mem run (𝓣 .C) (𝓣 .Λ) (fmOf 𝓤 H (W .laws) 𝓣) known)
@@ -236,6 +236,6 @@ pub unwrap-lent-spec : {M : Type 1} → stated.statement M
 unfolding code.routine tablesOf
 unwrap-lent-spec 𝓤 H 𝓜 𝓖 𝓡 =
     entered 𝓤 H (tripleOf 𝓤 H (𝓖 .A) bridge.signature (bridge.spec 𝓤 H (𝓖 .A) (𝓜 .mem) (𝓡 .run)))
-    (tables 𝓤 H 𝓜 𝓡 code.env .C) (tables 𝓤 H 𝓜 𝓡 code.env .Λ) #spongewrap·running·unwrap-lent code.function (code.unfolded 𝓤 H 𝓜 𝓡)
+    (tables 𝓤 H 𝓜 𝓡 code.env .C) (tables 𝓤 H 𝓜 𝓡 code.env .Λ) #running·unwrap-lent code.function (code.unfolded 𝓤 H 𝓜 𝓡)
     (bridge-meets 𝓤 H (𝓖 .A) (givenOf 𝓤 H 𝓜 𝓖) (𝓜 .mem) (𝓡 .run) (tablesOf 𝓤 H 𝓜 (tables 𝓤 H 𝓜 𝓡 code.env))
-    (cited 𝓤 H (Thin 𝓤 H (𝓖 .A) (𝓜 .mem) (𝓡 .run)) 𝓜 𝓡 code.env #spongewrap·running·unwrap-in-place thin-def.routine code.calls-spongewrap·running·unwrap-in-place (thin-thm.met 𝓤 H 𝓜 𝓖 𝓡)))
+    (cited 𝓤 H (Thin 𝓤 H (𝓖 .A) (𝓜 .mem) (𝓡 .run)) 𝓜 𝓡 code.env #running·unwrap-in-place thin-def.routine code.calls-running·unwrap-in-place (thin-thm.met 𝓤 H 𝓜 𝓖 𝓡)))
