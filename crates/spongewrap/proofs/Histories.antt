@@ -13,6 +13,7 @@ use Rattle.sponge.proofs.Pieces.{absorb-append}
 use Rattle.duplex.specs.Duplex.{framed, after as drawn-after}
 use Rattle.duplex.specs.Strings.{blocks, front, cut, absorbed}
 use Rattle.duplex.proofs.Strings.{length-cut}
+use Rattle.duplex.proofs.Seal.{length-sealed}
 use Rattle.duplex.proofs.Open.{length-opened}
 use Rattle.duplex.proofs.Draw.{after-blocks}
 use Rattle.spongewrap.specs.SpongeWrap.{keyed, headed, bodied, ciphertext, tagged, left, plaintext}
@@ -62,19 +63,23 @@ module _ (w : ℕ) (f : List ℕ → List ℕ) (R : ℕ) (B : List (List ℕ)) (
     unfolding tagged blanks
     tag-pieces k j = rw (v, ← more, ← bodied-is b) (drawn-piece w f R (bodied w f R (sponge w f B) h b) t k l (rw n at j))
 
-    wrap-output : c ≡ ciphertext w f R (sponge w f B) h b → Output w f R B (record { header = h; body = b; cipher = c; tag = u })
+    wrap-output : 1 < R → c ≡ ciphertext w f R (sponge w f B) h b → Output w f R t B (record { header = h; body = b; cipher = c; tag = u })
     unfolding ciphertext
-    wrap-output e =
+    wrap-output r e =
         record {
+          cipher-length = ap length e ∙ length-sealed w f R (headed w f R (sponge w f B) h) b r;
+          tag-length = n;
           keystream = λ k j. rw (e, ← more, ← headed-is) (sealed-piece w f R (headed w f R (sponge w f B) h) b k j);
           tag = tag-pieces;
         }
 
-    unwrap-output : 1 < R → b ≡ plaintext w f R (sponge w f B) h c → Output w f R B (record { header = h; body = b; cipher = c; tag = u })
+    unwrap-output : 1 < R → b ≡ plaintext w f R (sponge w f B) h c → Output w f R t B (record { header = h; body = b; cipher = c; tag = u })
     unfolding plaintext
     unwrap-output r e =
         let m : length b ≡ length c = ap length e ∙ length-opened w f R (headed w f R (sponge w f B) h) c r in
         record {
+          cipher-length = sym m;
+          tag-length = n;
           keystream = λ k j. rw (e, ← more, ← headed-is) (opened-piece w f R (headed w f R (sponge w f B) h) c k (rw m at j));
           tag = tag-pieces;
         }
@@ -172,12 +177,12 @@ module _ (R t : ℕ) (B : List (List ℕ)) (n : ℕ) (s : Session) (a : Agrees R
   unfolding recovered
   recovered-is h c = rw (a .rate, a .lanes)
 
-  call-output : (c : Call) → answered s c .answer .number ≡ 0 → Output 64 f1600 R B (pairOf s c)
+  call-output : (c : Call) → answered s c .answer .number ≡ 0 → Output 64 f1600 R t B (pairOf s c)
   unfolding answered pairOf
   call-output (wrapping h b o) e =
       let r = wrap-fits s (length h) (length b) (length o) (sym (wrap-number s h b o) ∙ e) .0 .rate in
       wrap-output 64 f1600 R B h b _ _ t (omega (arith, a .rate, r .most)) (mark-is s h b o e ∙ tagOf-is h b)
-      (ap length (mark-is s h b o e) ∙ length-tagOf s h b r ∙ a .tag) (text-is s h b o e ∙ sealing-is h b)
+      (ap length (mark-is s h b o e) ∙ length-tagOf s h b r ∙ a .tag) (omega (arith, a .rate, r .room)) (text-is s h b o e ∙ sealing-is h b)
   call-output (unwrapping h c u o) e =
       let y = accepted-ready s h c u o e in
       let r = unwrap-fits s (length h) (length c) (length o) y .0 .rate in
@@ -191,7 +196,7 @@ module _ (R t : ℕ) (B : List (List ℕ)) (n : ℕ) (s : Session) (a : Agrees R
 -- each pair's output, at its point
 Outputs : ℕ → ℕ → List (List ℕ) → List Pair → Type 0
 Outputs R t B [] = Unit {0}
-Outputs R t B (p ∷ ps) = Output 64 f1600 R B p × Outputs R t (B ++ pairBlocks R t p) ps
+Outputs R t B (p ∷ ps) = Output 64 f1600 R t B p × Outputs R t (B ++ pairBlocks R t p) ps
 
 -- what holds where the pairs ps have been accepted since, and the session is s
 abbrev Ran : ℕ → ℕ → List (List ℕ) → ℕ → List Pair → Session → Type 0
@@ -214,7 +219,7 @@ run R t B n s a (c ∷ cs) = go (λ C m. λ g. run R t C m s′ g cs) (answered 
     go on (suc m) e = on B n (rw (call-kept R t B n s a c (λ z. omega arith)) a)
 
 -- the pair p among others
-among : (R t : ℕ) (B : List (List ℕ)) (before rest : List Pair) (p : Pair) → Outputs R t B (before ++ p ∷ rest) → Output 64 f1600 R (B ++ pairsBlocks R t before) p
+among : (R t : ℕ) (B : List (List ℕ)) (before rest : List Pair) (p : Pair) → Outputs R t B (before ++ p ∷ rest) → Output 64 f1600 R t (B ++ pairsBlocks R t before) p
 unfolding Outputs pairsBlocks
 among R t B [] rest p o = rw append-nil (o .0)
 among R t B (q ∷ before) rest p o = rw (← append-assoc) (among R t (B ++ pairBlocks R t q) before rest p (o .1))
@@ -239,6 +244,8 @@ history-tells key R t cs e =
     let n : length (history R t key ps) ≡ blocks R (length key) + pairsCost R t ps =
     length-append (cut R 1 0 key) (pairsBlocks R t ps) ∙ rw (length-cut, length-pairs) in
     record {
+      rate = a .0 .rate;
+      tag = a .0 .tag;
       pairs = a .0 .pairs ∙ zero-add (length ps);
       count = a .0 .calls ∙ n;
       blocks-number = sym (a .0 .calls);

@@ -6,3 +6,4 @@ pub mod Theorems
 pub mod Outcomes
 pub mod Outputs
 pub mod Histories
+pub mod ComesBack

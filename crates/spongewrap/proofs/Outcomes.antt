@@ -17,7 +17,7 @@ use Rattle.spongewrap.proofs.refusal.of_wrap.Reads as of-wrap
 use Rattle.spongewrap.proofs.refusal.of_unwrap.Reads as of-unwrap
 
 -- what is seen says both its parts
-parts : (r r′ : Answer) (o o′ : List ℕ) → seen r o ≡ seen r′ o′ → (r ≡ r′) × (o ≡ o′)
+pub parts : (r r′ : Answer) (o o′ : List ℕ) → seen r o ≡ seen r′ o′ → (r ≡ r′) × (o ≡ o′)
 parts r r′ o o′ e = (ap (λ (v : Seen). v .answer) e, ap (λ (v : Seen). v .out) e)
 
 pub default-open-outcome : (κs : Lfts 1) (a x y s t : _) → default.Post κs a x s → default.Post κs a y t → x ≡ y

@@ -41,6 +41,10 @@ pairOf s (wrapping h b o) =
     }
 pairOf s (unwrapping h c t o) = record { header = h; body = take (length c) (unwraps s h c t o .out); cipher = c; tag = t }
 
+-- the part of it that both ends know
+abbrev pub content : Pair → List ℕ × List ℕ
+content p = (p .header, p .body)
+
 unfoldable pub ifAccepted : ℕ → Pair → List Pair
 ifAccepted zero p = p ∷ []
 ifAccepted (suc n) p = []
@@ -88,7 +92,9 @@ Whole R (b ∷ B) = (length b ≡ R) × Whole R B
 abbrev pub output : ℕ → (List ℕ → List ℕ) → List (List ℕ) → List ℕ
 output w f B = bytes w (sponge w f B)
 
-pub record Output (w : ℕ) (f : List ℕ → List ℕ) (R : ℕ) (B : List (List ℕ)) (p : Pair) : Type 0 where
+pub record Output (w : ℕ) (f : List ℕ → List ℕ) (R t : ℕ) (B : List (List ℕ)) (p : Pair) : Type 0 where
+  pub cipher-length : length (p .cipher) ≡ length (p .body)
+  pub tag-length : length (p .tag) ≡ t
   -- each keystream piece, which turns a piece of the body into one of the ciphertext, is the output at its point
   pub keystream : (k : ℕ) → k < blocks R (length (p .body))
       → piece (R - 1) (p .cipher) k ≡ xored (piece (R - 1) (p .body) k) (output w f (B ++ cut R 0 1 (p .header) ++ front R 1 (p .body) k))
@@ -99,6 +105,8 @@ pub record Output (w : ℕ) (f : List ℕ → List ℕ) (R : ℕ) (B : List (Lis
 -- ---- demand 3, of a session that stands where a key was absorbed and the pairs ps were accepted
 
 pub record Told (R t : ℕ) (key : List ℕ) (ps : List Pair) (s : Session) : Type 0 where
+  pub rate : s .rate ≡ R
+  pub tag : s .tag ≡ t
   pub pairs : s .pairs ≡ length ps
   -- the count is the blocks of the key and of each accepted pair
   pub count : s .calls ≡ blocks R (length key) + pairsCost R t ps
@@ -108,4 +116,4 @@ pub record Told (R t : ℕ) (key : List ℕ) (ps : List Pair) (s : Session) : Ty
   -- absorbed by the plain sponge they leave the session's lanes
   pub state : s .lanes ≡ sponge 64 f1600 (history R t key ps)
   -- whatever went over in any of the pairs is that sponge's output, after the blocks of the pairs before it
-  pub outputs : (before rest : List Pair) (p : Pair) → ps ≡ before ++ p ∷ rest → Output 64 f1600 R (history R t key before) p
+  pub outputs : (before rest : List Pair) (p : Pair) → ps ≡ before ++ p ∷ rest → Output 64 f1600 R t (history R t key before) p

@@ -1,0 +1,55 @@
+-- Demand 2 over whole histories: two ends that were opened by one key and settings and accepted the same pairs are the same session, whichever
+-- end wrapped each pair, and whatever was refused between; so what one wraps comes back at the other.
+use Prim.Native.Nat.{ℕ, suc, _≤_}
+use native.Mathlib.Omega.{arith}
+use mathlib.Core.Path.{_≡_, refl, sym, ap, _∙_}
+use mathlib.Core.List.{List, [], _∷_, _++_, map}
+use lib.ListN.{length, getD, drop}
+use Rattle.keccak.specs.Rounds.{f1600}
+use Rattle.sponge.specs.Sponge.{sponge}
+use Rattle.duplex.specs.Strings.{cut}
+use Rattle.spongewrap.specs.Sessions.{opens, seen, wraps, unwraps}
+use Rattle.spongewrap.specs.History.{Call, Pair, content, after, accepted, pairBlocks, pairsBlocks, history, Told}
+use Rattle.spongewrap.specs.declared.Session.{Session}
+use Rattle.spongewrap.proofs.Theorems.{text, mark, wrap-unwrap}
+use Rattle.spongewrap.proofs.Histories.{history-tells}
+
+-- the blocks of some pairs go by their headers and bodies
+same-blocks : (R t : ℕ) (ps qs : List Pair) → map content ps ≡ map content qs → (pairsBlocks R t ps ≡ pairsBlocks R t qs) × (length ps ≡ length qs)
+unfolding pairsBlocks pairBlocks
+same-blocks R t [] [] e = (refl, refl)
+same-blocks R t [] (q ∷ qs) e = absurd (omega (arith, ap length e))
+same-blocks R t (p ∷ ps) [] e = absurd (omega (arith, ap length e))
+same-blocks R t (p ∷ ps) (q ∷ qs) e =
+    let c : content p ≡ content q = ap (λ (l : List (List ℕ × List ℕ)). getD l 0 (content p)) e in
+    let i = same-blocks R t ps qs (ap (drop 1) e) in
+    (rw (ap (λ (x : List ℕ × List ℕ). x .0) c, ap (λ (x : List ℕ × List ℕ). x .1) c, i .0), ap suc (i .1))
+
+-- a session is its five parts
+parts : {l l′ : List ℕ} {a a′ b b′ c c′ d d′ : ℕ} → l ≡ l′ → a ≡ a′ → b ≡ b′ → c ≡ c′ → d ≡ d′
+    → _≡_ {A = Session} (record { lanes = l; rate = a; tag = b; pairs = c; calls = d }) (record { lanes = l′; rate = a′; tag = b′; pairs = c′; calls = d′ })
+parts u v w x y = cc
+
+-- what is told of two sessions makes them one, where the headers and bodies are the same
+told-same : (R t : ℕ) (key : List ℕ) (ps qs : List Pair) (s r : Session) → map content ps ≡ map content qs → Told R t key ps s → Told R t key qs r → s ≡ r
+unfolding history
+told-same R t key ps qs s r e x y =
+    let z = same-blocks R t ps qs e in
+    let h : cut R 1 0 key ++ pairsBlocks R t ps ≡ cut R 1 0 key ++ pairsBlocks R t qs = rw (z .0) in
+    parts (x .state ∙ ap (sponge 64 f1600) h ∙ sym (y .state)) (x .rate ∙ sym (y .rate)) (x .tag ∙ sym (y .tag)) (x .pairs ∙ z .1 ∙ sym (y .pairs))
+    (sym (x .blocks-number) ∙ ap length h ∙ y .blocks-number)
+
+module _ (key : List ℕ) (R t : ℕ) (e : opens key R t .number ≡ 0) where
+  abbrev begun : Session
+  begun = opens key R t .session
+
+  -- Two runs of calls from one open in which the same headers and bodies were accepted in the same order end in the same session.
+  pub same-history : (cs ds : List Call) → map content (accepted begun cs) ≡ map content (accepted begun ds) → after begun cs ≡ after begun ds
+  same-history cs ds m = told-same R t key _ _ _ _ m (history-tells key R t cs e) (history-tells key R t ds e)
+
+  -- Under the same key, settings and earlier pairs, what one end wrapped comes back exactly at the other, and both stand at one session again.
+  pub comes-back : (cs ds : List Call) → map content (accepted begun cs) ≡ map content (accepted begun ds)
+      → (h b o o′ : List ℕ) → wraps (after begun cs) h b o .answer .number ≡ 0 → length b ≤ length o′
+      → unwraps (after begun ds) h (text (after begun cs) h b o) (mark (after begun cs) h b o) o′
+      ≡ seen (record { number = 0; session = wraps (after begun cs) h b o .answer .session }) (b ++ drop (length b) o′)
+  comes-back cs ds m h b o o′ a l = rw (sym (same-history cs ds m)) (wrap-unwrap (after begun cs) h b o a o′ l)
