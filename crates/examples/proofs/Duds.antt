@@ -6,20 +6,22 @@ use mathlib.Core.Path.{_≡_, refl, sym, ap, _∙_}
 use mathlib.Core.List.{List, [], _∷_}
 use lib.Dec.{lit<}
 use lib.ListN.{length, getD, take, replicate}
-use Rattle.keccak.specs.Rounds.{round, rounds}
+use Rattle.keccak.specs.Rounds.{round, rounds, f1600}
 use Rattle.sponge.specs.Table.{table}
 use Rattle.sponge.specs.Bytes.{laneOf, mixed, byteOf, bytes}
 use Rattle.sponge.specs.Pieces.{piece, blocksOf, before}
 use Rattle.sponge.specs.Padding.{tail, padded}
 use Rattle.sponge.specs.Sponge.{zeros, absorbBlock, absorb, iterate}
 use Rattle.duplex.specs.Duplex.{framed, after}
-use Rattle.duplex.specs.Strings.{blocks, front, cut, xored, absorbed, masked, sealed}
-use Rattle.spongewrap.specs.SpongeWrap.{headed, bodied, ciphertext, left}
+use Rattle.duplex.specs.Strings.{blocks, front, cut, xored, absorbed, masked, sealed, unmasked, opened as opened-string}
+use Rattle.spongewrap.specs.SpongeWrap.{headed, bodied, ciphertext, left, plaintext}
 use Rattle.spongewrap.specs.Refusals.{pick, openRefusal, wrapRefusal, unwrapRefusal}
 use Rattle.spongewrap.specs.Sessions.{opened, opens, cost, advanced, next, sealing, tagOf, recovered, Seen, wraps, unwraps}
 use Rattle.spongewrap.specs.declared.Session.{Session}
 use Rattle.spongewrap.specs.declared.Answer.{Answer}
-use Rattle.spongewrap.proofs.Theorems.{wrap-number, unwrap-number, wrapped-is, unwrapped-is, unwrap-accepts-exactly, text-is}
+use Rattle.spongewrap.proofs.Theorems.{wrap-number, unwrap-number, wrapped-is, unwrapped-is, unwrap-accepts-exactly, wrong-tag-releases-nothing, text-is}
+use Rattle.spongewrap.proofs.Passed.{unwrap-fits}
+use Rattle.spongewrap.proofs.Settle.{length-tagOf}
 
 -- a session with the rate R, one pair and a state of zeros
 plain : ℕ → Session
@@ -45,14 +47,40 @@ module _ (g : List ℕ → ℕ → ℕ → Answer) (meets : (key : List ℕ) (R 
 
 -- ---- wrap
 
--- values that are computed: the first byte of a ciphertext, and the first lane after a pair
+-- the state of zeros after the block of an empty header, computed once
+after-header : List ℕ
+after-header =
+    0x4aff58b51d129e1f ∷ 0xa97ab4486ed01161 ∷ 0x86c597232268c9e8 ∷ 0xe4cc5b2ac827d67e ∷ 0x22910cb07798221c
+    ∷ 0xb8bd5d7b5ce33cdc ∷ 0x964355839b1bfe99 ∷ 0x19ae555155ef06c5 ∷ 0x66c0cdabaa260b48 ∷ 0x2249e0829f5f284c
+    ∷ 0x3ecfb6ea62b13a8e ∷ 0x14ce28fe710c23e2 ∷ 0x20fc6819a7166ccf ∷ 0xa2b91c80eea08d7a ∷ 0x78b9b01e336bd328
+    ∷ 0x500a0ea5d191c0c ∷ 0x2c8e1e36d1fe7189 ∷ 0x14038b9b4c82e84 ∷ 0x2dd70da92496379 ∷ 0xf5fd9b3bdaf700f6
+    ∷ 0xb8676c43a0a5f3d4 ∷ 0x57eb2c5e3e28c9ca ∷ 0x65946b420b1ab1ec ∷ 0xf61914edf0483f0a ∷ 0x6874f8331879c99a ∷ []
+
+header-state : headed 64 f1600 136 zeros [] ≡ after-header
+unfolding after-header headed absorbed cut front framed blocksOf piece before padded tail absorb absorbBlock mixed laneOf table zeros rounds round
+header-state = refl
+
+-- from it: the first byte of a ciphertext and of the body that a ciphertext opens to, and the first lane after a pair
 first-byte : getD (sealing (plain 136) [] (0 ∷ [])) 0 0 ≡ 0x1f
-unfolding plain sealing ciphertext sealed masked xored headed absorbed cut front framed blocks blocksOf piece before padded tail absorb absorbBlock mixed laneOf table bytes byteOf zeros rounds round
-first-byte = refl
+unfolding plain sealing ciphertext sealed masked front blocksOf blocks piece before absorb xored table bytes byteOf after-header
+first-byte = rw header-state refl
+
+first-opened : getD (recovered (plain 136) [] (0 ∷ [])) 0 0 ≡ 0x1f
+unfolding plain recovered plaintext opened-string unmasked front blocksOf blocks piece before absorb xored table bytes byteOf after-header
+first-opened = rw header-state refl
+
+pair-state : next (plain 136) [] [] .lanes ≡ absorbed 64 f1600 136 after-header 1 0 []
+unfolding plain next advanced left after iterate before bodied
+pair-state = rw header-state
 
 first-lane : getD (next (plain 136) [] [] .lanes) 0 0 ≡ 0xc026b87a93e8a9ee
-unfolding plain next advanced left after iterate bodied headed absorbed cut front framed blocksOf piece before padded tail absorb absorbBlock mixed laneOf table zeros rounds round
-first-lane = refl
+unfolding absorbed cut front framed blocksOf piece before padded tail absorb absorbBlock mixed laneOf table rounds round after-header
+first-lane = ap (λ (l : List ℕ). getD l 0 0) pair-state
+
+-- the first lane of zeros after the block of an empty body
+body-lane : getD (absorbed 64 f1600 136 zeros 1 0 []) 0 0 ≡ 0xf4ef9e9955cbe5c3
+unfolding absorbed cut front framed blocksOf piece before padded tail absorb absorbBlock mixed laneOf table zeros rounds round
+body-lane = refl
 
 module _ (g : Session → List ℕ → List ℕ → List ℕ → Seen) (meets : (s : Session) (h b o : List ℕ) → g s h b o ≡ wraps s h b o) where
   -- an output with room
@@ -106,6 +134,25 @@ module _ (g : Session → List ℕ → List ℕ → List ℕ → Seen) (meets : 
       let z : _≡_ {A = ℕ} 0xc026b87a93e8a9ee 0 = sym first-lane ∙ ap (λ (l : List ℕ). getD l 0 0) e ∙ (unfold zeros in refl) in
       omega arith
 
+  -- A wrap that skips the duplexing of an empty header: the body goes on from the session's own lanes.
+  pub wrap-skips-empty-header : ((s : Session) (b o : List ℕ) → g s [] b o .answer .number ≡ 0
+      → g s [] b o .answer .session .lanes ≡ after 64 f1600 (s .rate) (absorbed 64 f1600 (s .rate) (s .lanes) 1 0 b) (s .tag)) → ⊥
+  unfolding plain wrapRefusal pick after iterate before
+  wrap-skips-empty-header d =
+      let e : next (plain 136) [] [] .lanes ≡ absorbed 64 f1600 136 zeros 1 0 [] = sym (ap (λ (s : Session). s .lanes) (session [] refl)) ∙ d (plain 136) [] room (well [] refl) in
+      let z : _≡_ {A = ℕ} 0xc026b87a93e8a9ee 0xf4ef9e9955cbe5c3 = sym first-lane ∙ ap (λ (l : List ℕ). getD l 0 0) e ∙ body-lane in
+      omega arith
+
+  -- A wrap that skips the duplexing of an empty body: the tag comes from the lanes that the header left.
+  pub wrap-skips-empty-body : ((s : Session) (h o : List ℕ) → g s h [] o .answer .number ≡ 0
+      → g s h [] o .answer .session .lanes ≡ after 64 f1600 (s .rate) (headed 64 f1600 (s .rate) (s .lanes) h) (s .tag)) → ⊥
+  unfolding plain wrapRefusal pick after iterate before
+  wrap-skips-empty-body d =
+      let e : next (plain 136) [] [] .lanes ≡ headed 64 f1600 136 zeros [] = sym (ap (λ (s : Session). s .lanes) (session [] refl)) ∙ d (plain 136) [] room (well [] refl) in
+      let z : _≡_ {A = ℕ} 0xc026b87a93e8a9ee 0x4aff58b51d129e1f =
+      sym first-lane ∙ ap (λ (l : List ℕ). getD l 0 0) (e ∙ header-state) ∙ (unfold after-header in refl) in
+      omega arith
+
   -- A wrap with an invented count: one that does not go by what is wrapped.
   pub wrap-invents-count : (count : Session → ℕ) → ((s : Session) (h b o : List ℕ) → g s h b o .answer .number ≡ 0 → g s h b o .answer .session .calls ≡ count s) → ⊥
   unfolding plain wrapRefusal pick next advanced cost blocks before
@@ -144,4 +191,17 @@ module _ (g : Session → List ℕ → List ℕ → List ℕ → List ℕ → Se
   unwrap-does-nothing d =
       let e : unwraps (plain 136) [] [] due [] .answer .session ≡ plain 136 = rw meets at (d (plain 136) [] [] due []) in
       let z : _≡_ {A = ℕ} 2 1 = ap (λ (s : Session). s .pairs) (sym (ap (λ (v : Seen). v .answer .session) (unwrapped-is (plain 136) [] [] due [] unwraps-well)) ∙ e) in
+      omega arith
+
+  -- An unwrap that writes the plaintext and then checks the tag.
+  pub unwrap-writes-early : ((s : Session) (h c t o : List ℕ) → g s h c t o .answer .number ≡ 8 → take (length c) (g s h c t o .out) ≡ recovered s h c) → ⊥
+  unfolding plain unwrapRefusal pick
+  unwrap-writes-early d =
+      let c : List ℕ = 0 ∷ [] in
+      let r = unwrap-fits (plain 136) 0 1 1 refl .0 .rate in
+      let other : [] ≡ tagOf (plain 136) [] (recovered (plain 136) [] c) → ⊥ = λ e. omega (arith, ap length e, length-tagOf (plain 136) [] (recovered (plain 136) [] c) r) in
+      let n = wrong-tag-releases-nothing (plain 136) [] c [] c refl other in
+      let e : take 1 (unwraps (plain 136) [] c [] c .out) ≡ recovered (plain 136) [] c =
+      rw meets at (d (plain 136) [] c [] c (rw meets (ap (λ (v : Seen). v .answer .number) n))) in
+      let z : _≡_ {A = ℕ} 0 0x1f = ap (λ (l : List ℕ). getD l 0 0) (sym (ap (λ (v : Seen). take 1 (v .out)) n) ∙ e) ∙ first-opened in
       omega arith
