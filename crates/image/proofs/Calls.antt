@@ -1,32 +1,74 @@
--- A call over an image by its outcome: an image of another length, a refusal, an accepted call.
-use mathlib.Core.Path.{_≡_, refl, sym, ap, _∙_}
-use mathlib.Core.List.{List}
-use mathlib.Core.Bool.{true, false}
+-- A call over an image by its outcome: an image of another length, or the session's own call, settled.
+use mathlib.Core.Path.{_≡_, refl, sym, _∙_}
+use mathlib.Core.List.{List, []}
+use mathlib.Core.Bool.{Bool, true, false}
 use Prim.Native.Nat.{ℕ, zero, suc}
 use lib.Dec.{eqb}
 use lib.ListN.{length}
 use borrow.Author.Tests.{eq-eqb, ne-eqb}
 use Rattle.spongewrap.specs.Sessions as sessions
+use Rattle.spongewrap.specs.Sessions.{opens, wraps, unwraps}
 use Rattle.spongewrap.specs.declared.Answer.{Answer}
 use Rattle.spongewrap.specs.declared.Session.{Session}
-use Rattle.image.specs.Image.{imageOf}
-use Rattle.image.specs.Calls.{seen, kept, whole, answered}
+use Rattle.spongewrap.proofs.Theorems as theorems
+use Rattle.image.specs.Image.{imageLength, imageOf, sessionOf}
+use Rattle.image.specs.Calls.{Seen, seen, kept, whole, opensImage, wrapsImage, unwrapsImage}
 
-keeps : (n : ℕ) (i : List ℕ) (s : Session) → (n ≡ 0 → ⊥) → kept n i s ≡ i
+-- ---- for the proofs of the calls
+
+pub kept-refused : (n : ℕ) (i : List ℕ) (s : Session) → (n ≡ 0 → ⊥) → i ≡ kept n i s
 unfolding kept
-keeps zero i s d = absurd (d refl)
-keeps (suc n) i s d = refl
+kept-refused zero i s d = absurd (d refl)
+kept-refused (suc n) i s d = refl
+
+pub kept-accepted : (n : ℕ) (i i′ : List ℕ) (s : Session) → n ≡ 0 → i′ ≡ imageOf s → i′ ≡ kept n i s
+unfolding kept
+kept-accepted n i i′ s z e = rw z e
 
 module _ (i o : List ℕ) (w : sessions.Seen) where
-  pub other-length : (length i ≡ 216 → ⊥) → seen 6 i o ≡ whole (eqb (length i) 216) i o w
+  pub other-length : (length i ≡ imageLength → ⊥) → seen 6 i o ≡ whole (eqb (length i) imageLength) i o w
   unfolding whole
-  other-length h = rw (ne-eqb (length i) 216 h)
+  other-length h = rw (ne-eqb (length i) imageLength h)
 
-  module _ (h : length i ≡ 216) (a : Answer) (o′ : List ℕ) (e : sessions.seen a o′ ≡ w) where
-    pub refused : (a .number ≡ 0 → ⊥) → seen (a .number) i o′ ≡ whole (eqb (length i) 216) i o w
-    unfolding whole
-    refused d = rw (eq-eqb (length i) 216 h, ← e) (ap (λ (j : List ℕ). seen (a .number) j o′) (sym (keeps (a .number) i (a .session) d)))
+  called : length i ≡ imageLength → (a : Answer) (o′ : List ℕ) → sessions.seen a o′ ≡ w → (n : ℕ) (i′ : List ℕ)
+      → n ≡ a .number → i′ ≡ kept (a .number) i (a .session) → seen n i′ o′ ≡ whole (eqb (length i) imageLength) i o w
+  unfolding whole
+  called h a o′ e n i′ f g = rw (eq-eqb (length i) imageLength h, ← e, f, g)
 
-    pub accepted : a .number ≡ 0 → (i′ : List ℕ) → i′ ≡ imageOf (a .session) → seen 0 i′ o′ ≡ whole (eqb (length i) 216) i o w
-    unfolding whole kept
-    accepted z i′ f = rw (eq-eqb (length i) 216 h, ← e, z, f)
+pub opened-is : (i i′ : List ℕ) (n : ℕ) (a : Answer) (key : List ℕ) (R t : ℕ) → length i ≡ imageLength → a ≡ opens key R t
+    → (n ≡ a .number) × (i′ ≡ kept (a .number) i (a .session)) → seen n i′ [] ≡ opensImage key R t i
+unfolding opensImage
+opened-is i i′ n a key R t h e f = called i [] _ h a [] (rw e) n i′ (f .0) (f .1)
+
+pub wrapped-is : (i i′ : List ℕ) (n : ℕ) (a : Answer) (s : Session) (k b o o′ : List ℕ) → length i ≡ imageLength → s ≡ sessionOf i
+    → sessions.seen a o′ ≡ wraps s k b o → (n ≡ a .number) × (i′ ≡ kept (a .number) i (a .session)) → seen n i′ o′ ≡ wrapsImage i k b o
+unfolding wrapsImage
+wrapped-is i i′ n a s k b o o′ h z e f = called i o _ h a o′ (e ∙ rw z) n i′ (f .0) (f .1)
+
+pub unwrapped-is : (i i′ : List ℕ) (n : ℕ) (a : Answer) (s : Session) (k c t o o′ : List ℕ) → length i ≡ imageLength → s ≡ sessionOf i
+    → sessions.seen a o′ ≡ unwraps s k c t o → (n ≡ a .number) × (i′ ≡ kept (a .number) i (a .session)) → seen n i′ o′ ≡ unwrapsImage i k c t o
+unfolding unwrapsImage
+unwrapped-is i i′ n a s k c t o o′ h z e f = called i o _ h a o′ (e ∙ rw z) n i′ (f .0) (f .1)
+
+-- ---- a refused call leaves image and output
+
+pub record Kept (i o : List ℕ) (v : Seen) : Type 0 where
+  pub image : v .image ≡ i
+  pub out : v .out ≡ o
+
+whole-kept : (t : Bool) (i o : List ℕ) (w : sessions.Seen) → ((w .answer .number ≡ 0 → ⊥) → w .out ≡ o) → (whole t i o w .number ≡ 0 → ⊥) → Kept i o (whole t i o w)
+unfolding whole
+whole-kept false i o w k d = record { image = refl; out = refl }
+whole-kept true i o w k d = record { image = sym (kept-refused (w .answer .number) i (w .answer .session) d); out = k d }
+
+pub open-kept : (key : List ℕ) (R t : ℕ) (i : List ℕ) → (opensImage key R t i .number ≡ 0 → ⊥) → Kept i [] (opensImage key R t i)
+unfolding opensImage
+open-kept key R t i d = whole-kept _ i [] _ (λ _. refl) d
+
+pub wrap-kept : (i h b o : List ℕ) → (wrapsImage i h b o .number ≡ 0 → ⊥) → Kept i o (wrapsImage i h b o)
+unfolding wrapsImage
+wrap-kept i h b o d = whole-kept _ i o _ (λ e. theorems.wrap-kept (sessionOf i) h b o e .out) d
+
+pub unwrap-kept : (i h c t o : List ℕ) → (unwrapsImage i h c t o .number ≡ 0 → ⊥) → Kept i o (unwrapsImage i h c t o)
+unfolding unwrapsImage
+unwrap-kept i h c t o d = whole-kept _ i o _ (λ e. theorems.unwrap-kept (sessionOf i) h c t o e .out) d

@@ -7,7 +7,7 @@ use lib.ListN.{length}
 use Rattle.spongewrap.specs.declared.Session.{Session}
 use Rattle.spongewrap.specs.Sessions as sessions
 use Rattle.spongewrap.specs.Sessions.{opens, wraps, unwraps}
-use Rattle.image.specs.Image.{imageOf, sessionOf}
+use Rattle.image.specs.Image.{imageLength, imageOf, sessionOf}
 
 -- what is seen of a call: its number, and the image and the lent output as they are left
 pub record Seen : Type 0 where
@@ -32,10 +32,10 @@ whole false i o w = seen 6 i o
 whole true i o w = answered i w
 
 unfoldable pub opensImage : List ℕ → ℕ → ℕ → List ℕ → Seen
-opensImage key R t i = whole (eqb (length i) 216) i [] (sessions.seen (opens key R t) [])
+opensImage key R t i = whole (eqb (length i) imageLength) i [] (sessions.seen (opens key R t) [])
 
 unfoldable pub wrapsImage : List ℕ → List ℕ → List ℕ → List ℕ → Seen
-wrapsImage i h b o = whole (eqb (length i) 216) i o (wraps (sessionOf i) h b o)
+wrapsImage i h b o = whole (eqb (length i) imageLength) i o (wraps (sessionOf i) h b o)
 
 unfoldable pub unwrapsImage : List ℕ → List ℕ → List ℕ → List ℕ → List ℕ → Seen
-unwrapsImage i h c t o = whole (eqb (length i) 216) i o (unwraps (sessionOf i) h c t o)
+unwrapsImage i h c t o = whole (eqb (length i) imageLength) i o (unwraps (sessionOf i) h c t o)

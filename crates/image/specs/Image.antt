@@ -7,6 +7,9 @@ use Rattle.sponge.specs.Bytes.{bytes, laneOf}
 use Rattle.fields.specs.Numbers.{numberAt, bytesOf}
 use Rattle.spongewrap.specs.declared.Session.{Session}
 
+abbrev pub imageLength : ℕ
+imageLength = 216
+
 unfoldable pub imageOf : Session → List ℕ
 imageOf s =
     bytes 64 (s .lanes) ++ (bytesOf 2 (s .rate) ++ (bytesOf 2 (s .tag) ++ (bytesOf 4 (s .pairs) ++ bytesOf 8 (s .calls))))

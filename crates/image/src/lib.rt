@@ -2,49 +2,64 @@
 ghost use mathlib.Core.Path.{_≡_};
 ghost use mathlib.Core.List.{[]};
 ghost use lib.ListN.{length};
-ghost use Rattle.image.specs.Image.{imageOf, sessionOf};
-ghost use Rattle.image.specs.Calls.{seen, opensImage, wrapsImage, unwrapsImage};
+ghost use Rattle.image.specs.Image.{imageLength, imageOf, sessionOf};
+ghost use Rattle.image.specs.Calls.{seen, kept, opensImage, wrapsImage, unwrapsImage};
+use spongewrap::Answer;
 use spongewrap::Session;
 use spongewrap::refusal;
 
 // How many bytes an image has.
-const LENGTH: usize = 216;
+pub const LENGTH: usize = 216;
 
 // Where its numbers stand, behind the 200 bytes of the state.
-const RATE: usize = 200;
+const RATE_PLACE: usize = 200;
 
-const TAG: usize = 202;
+const TAG_PLACE: usize = 202;
 
-const PAIRS: usize = 204;
+const PAIRS_PLACE: usize = 204;
 
-const CALLS: usize = 208;
+const CALLS_PLACE: usize = 208;
 
 // The session that an image holds.
 pub fn session_of(image: &[u8]) -> Session
-    requires { ⌜ length (now image) ≡ 216 ⌝ }
+    requires { ⌜ length (now image) ≡ imageLength ⌝ }
     ensures { λ r. ⌜ r ≡ sessionOf (now (image .entry)) ⌝ }
 {
-    let lanes = sponge::mixed([0u64; 25], &image[..RATE]);
+    let lanes = sponge::mixed([0u64; 25], &image[..RATE_PLACE]);
     Session {
         lanes,
-        rate: fields::read_u16(image, RATE),
-        tag: fields::read_u16(image, TAG),
-        pairs: fields::read_u32(image, PAIRS),
-        calls: fields::read_u64(image, CALLS),
+        rate: fields::read_u16(image, RATE_PLACE),
+        tag: fields::read_u16(image, TAG_PLACE),
+        pairs: fields::read_u32(image, PAIRS_PLACE),
+        calls: fields::read_u64(image, CALLS_PLACE),
     }
 }
 
 // A session laid over a whole image.
 pub fn put_session(s: Session, image: &mut [u8])
-    requires { ⌜ length (now image) ≡ 216 ⌝ }
+    requires { ⌜ length (now image) ≡ imageLength ⌝ }
     ensures { λ _. ⌜ now (image .exit) ≡ imageOf s ⌝ }
 {
     let lanes = s.lanes;
-    sponge::put_bytes(lanes, &mut image[..RATE]);
-    fields::put_u16(image, RATE, s.rate);
-    fields::put_u16(image, TAG, s.tag);
-    fields::put_u32(image, PAIRS, s.pairs);
-    fields::put_u64(image, CALLS, s.calls);
+    sponge::put_bytes(lanes, &mut image[..RATE_PLACE]);
+    fields::put_u16(image, RATE_PLACE, s.rate);
+    fields::put_u16(image, TAG_PLACE, s.tag);
+    fields::put_u32(image, PAIRS_PLACE, s.pairs);
+    fields::put_u64(image, CALLS_PLACE, s.calls);
+}
+
+// A call's answer: on success the new session is laid over the image, and a refusal leaves it.
+fn settled(answer: Answer, image: &mut [u8]) -> u8
+    requires { ⌜ length (now image) ≡ imageLength ⌝ }
+    ensures { λ r. ⌜ (r ≡ answer .number) × (now (image .exit) ≡ kept (answer .number) (now (image .entry)) (answer .session)) ⌝ }
+{
+    let number = answer.number;
+    if number != 0 {
+        return number;
+    }
+    let session = answer.session;
+    put_session(session, image);
+    0
 }
 
 // Opens a session into an image.
@@ -54,14 +69,7 @@ pub fn open(key: &[u8], rate: u16, tag: u16, image: &mut [u8]) -> u8
     if image.len() != LENGTH {
         return refusal::ROOM;
     }
-    let answer = spongewrap::open(key, rate, tag);
-    let number = answer.number;
-    if number != 0 {
-        return number;
-    }
-    let session = answer.session;
-    put_session(session, image);
-    0
+    settled(spongewrap::open(key, rate, tag), image)
 }
 
 // Seals a pair with the session that an image holds.
@@ -71,14 +79,8 @@ pub fn wrap(image: &mut [u8], header: &[u8], body: &[u8], out: &mut [u8]) -> u8
     if image.len() != LENGTH {
         return refusal::ROOM;
     }
-    let answer = spongewrap::wrap(session_of(&image[..]), header, body, out);
-    let number = answer.number;
-    if number != 0 {
-        return number;
-    }
-    let session = answer.session;
-    put_session(session, image);
-    0
+    let session = session_of(&image[..]);
+    settled(spongewrap::wrap(session, header, body, out), image)
 }
 
 // Opens a pair with the session that an image holds.
@@ -88,12 +90,9 @@ pub fn unwrap(image: &mut [u8], header: &[u8], cipher: &[u8], tag: &[u8], body: 
     if image.len() != LENGTH {
         return refusal::ROOM;
     }
-    let answer = spongewrap::unwrap(session_of(&image[..]), header, cipher, tag, body);
-    let number = answer.number;
-    if number != 0 {
-        return number;
-    }
-    let session = answer.session;
-    put_session(session, image);
-    0
+    let session = session_of(&image[..]);
+    settled(
+        spongewrap::unwrap(session, header, cipher, tag, body),
+        image,
+    )
 }

@@ -1,38 +1,16 @@
--- An image of another length is refused; else the answer is the session's, laid over the image if it is accepted.
-use mathlib.Core.Path.{_∙_, ap}
-use Rattle.spongewrap.specs.declared.Session.{Session}
-use Rattle.spongewrap.specs.Sessions as sessions
-use Rattle.image.specs.Calls.{unwrapsImage}
-use Rattle.image.proofs.Calls.{other-length, refused, accepted}
+-- An image of another length is refused; else the answer is the session's own, settled.
 use borrow.Author.Needs.{needs}
+use Rattle.image.specs.Calls.{unwrapsImage}
+use Rattle.image.proofs.Calls.{other-length, unwrapped-is}
 use Rattle.image.proofs.unwrap.Statement.{statement}
 use Rattle.image.proofs.unwrap.Tie as tie
 
 returns : tie.Need-returns
 unfolding unwrapsImage
-returns c = other-length (c .before .before .before .before .before .before .args .image .now) (c .before .before .before .before .before .before .args .body .now) _ (c .if1 .taken)
+returns c = search other-length
 
 returns-2 : tie.Need-returns-2
-unfolding unwrapsImage
-returns-2 c =
-    refused (c .before .before .before .before .before .before .before .before .before .before .before .before .before .args .image .now) (c .before .before .before .before .before .before .before .before .before .before .before .before .before .args .body .now) _ (c .before .before .before .before .before .before .before .if1 .left) (c .before .before .before .unwrap .result) _ (c .before .before .before .unwrap .ensures ∙ ap (λ (s : Session). sessions.unwraps s (c .before .before .before .before .before .before .before .before .before .before .before .before .before .args .header .now) (c .before .before .before .before .before .before .before .before .before .before .before .before .before .args .cipher .now) (c .before .before .before .before .before .before .before .before .before .before .before .before .before .args .tag .now) (c .before .before .before .before .before .before .before .before .before .before .before .before .before .args .body .now)) (c .before .before .before .before .before .session-of .ensures)) (c .if2 .taken)
-
-returns-3 : tie.Need-returns-3
-unfolding unwrapsImage
-returns-3 c =
-    accepted (c .before .before .before .before .before .before .before .before .before .before .before .before .before .before .before .before .before .before .args .image .now) (c .before .before .before .before .before .before .before .before .before .before .before .before .before .before .before .before .before .before .args .body .now) _ (c .before .before .before .before .before .before .before .before .before .before .before .before .if1 .left) (c .before .before .before .before .before .before .before .before .unwrap .result) _ (c .before .before .before .before .before .before .before .before .unwrap .ensures ∙ ap (λ (s : Session). sessions.unwraps s (c .before .before .before .before .before .before .before .before .before .before .before .before .before .before .before .before .before .before .args .header .now) (c .before .before .before .before .before .before .before .before .before .before .before .before .before .before .before .before .before .before .args .cipher .now) (c .before .before .before .before .before .before .before .before .before .before .before .before .before .before .before .before .before .before .args .tag .now) (c .before .before .before .before .before .before .before .before .before .before .before .before .before .before .before .before .before .before .args .body .now)) (c .before .before .before .before .before .before .before .before .before .before .session-of .ensures)) (c .before .before .before .before .before .if2 .left) _ (c .before .before .put-session .ensures)
+returns-2 c = search unwrapped-is
 
 pub unwrap-spec : {M : Type 1} → statement M
-unwrap-spec =
-    tie.close
-    (tie.spec
-    returns
-    (λ c κs. search needs)
-    (λ c κs. search needs)
-    (λ c. search needs)
-    (λ c. search needs)
-    returns-2
-    (λ c κs. search needs)
-    (λ c. search needs)
-    (λ c. search needs)
-    returns-3)
+unwrap-spec = tie.close (tie.spec returns (λ c κs. search needs) (λ c κs. search needs) (λ c κs. search needs) (λ c. search needs) (λ c. search needs) returns-2)
