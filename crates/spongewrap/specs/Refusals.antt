@@ -56,15 +56,14 @@ openRefusal key rate tag = first ((badRate rate, 1) ∷ (badSize key, 2) ∷ (ba
 abbrev pub standing : Bool → Bool → Session → List (Bool × ℕ)
 standing rate tag s = (rate, 1) ∷ (tag, 3) ∷ (full (s .pairs) (s .calls), 7) ∷ []
 
+-- the rows of a pair: the session's own, those of its header and body, and, last, `room`: the output lacks room
+abbrev pub pairRows : Session → ℕ → ℕ → Bool → List (Bool × ℕ)
+pairRows s header body room =
+    standing (badRate (s .rate)) (badSize (s .tag)) s ++ (longHeader header, 4) ∷ (longBody body, 5) ∷ (room, 6) ∷ []
+
 unfoldable pub wrapRefusal : Session → ℕ → ℕ → ℕ → ℕ
-wrapRefusal s header body out =
-    first
-    (standing (badRate (s .rate)) (badSize (s .tag)) s
-    ++ (longHeader header, 4) ∷ (longBody body, 5) ∷ (short out (body + s .tag), 6) ∷ [])
+wrapRefusal s header body out = first (pairRows s header body (short out (body + s .tag)))
 
 -- `other`: the tag is another than the recomputed one
 unfoldable pub unwrapRefusal : Session → ℕ → ℕ → ℕ → Bool → ℕ
-unwrapRefusal s header body out other =
-    first
-    (standing (badRate (s .rate)) (badSize (s .tag)) s
-    ++ (longHeader header, 4) ∷ (longBody body, 5) ∷ (short out body, 6) ∷ (other, 8) ∷ [])
+unwrapRefusal s header body out other = first (pairRows s header body (short out body) ++ (other, 8) ∷ [])

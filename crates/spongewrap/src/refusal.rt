@@ -2,7 +2,7 @@
 ghost use mathlib.Core.Path.{_≡_};
 ghost use mathlib.Core.Bool.{false};
 ghost use Prim.Native.Nat.{_+_};
-ghost use Rattle.spongewrap.specs.Refusals.{first, standing, badRate, badSize, full, short, openRefusal, wrapRefusal, unwrapRefusal};
+ghost use Rattle.spongewrap.specs.Refusals.{first, standing, badRate, badSize, full, short, pairRows, openRefusal, wrapRefusal, unwrapRefusal};
 use crate::Session;
 
 pub const RATE: u8 = 1;
@@ -89,29 +89,9 @@ pub fn of_session(s: Session, rate: bool, tag: bool) -> u8
     0
 }
 
-pub fn of_wrap(s: Session, header: usize, body: usize, out: usize) -> u8
-    ensures { λ r. ⌜ r ≡ wrapRefusal s header body out ⌝ }
-{
-    let tag = s.tag as usize;
-    let n = of_session(s, bad_rate(s.rate), bad_size(tag));
-    if n != 0 {
-        return n;
-    }
-    if MOST_HEADER < header {
-        return HEADER;
-    }
-    if MOST_BODY < body {
-        return BODY;
-    }
-    if is_short(out, body, tag) {
-        return ROOM;
-    }
-    0
-}
-
-// The rows of an unwrap that come before its tag's.
-pub fn of_unwrap(s: Session, header: usize, body: usize, out: usize) -> u8
-    ensures { λ r. ⌜ r ≡ unwrapRefusal s header body out false ⌝ }
+// The rows of a pair; `short` says that the output lacks room.
+fn of_pair(s: Session, header: usize, body: usize, short: bool) -> u8
+    ensures { λ r. ⌜ r ≡ first (pairRows s header body short) ⌝ }
 {
     let n = of_session(s, bad_rate(s.rate), bad_size(s.tag as usize));
     if n != 0 {
@@ -123,8 +103,21 @@ pub fn of_unwrap(s: Session, header: usize, body: usize, out: usize) -> u8
     if MOST_BODY < body {
         return BODY;
     }
-    if out < body {
+    if short {
         return ROOM;
     }
     0
+}
+
+pub fn of_wrap(s: Session, header: usize, body: usize, out: usize) -> u8
+    ensures { λ r. ⌜ r ≡ wrapRefusal s header body out ⌝ }
+{
+    of_pair(s, header, body, is_short(out, body, s.tag as usize))
+}
+
+// The rows of an unwrap that come before its tag's.
+pub fn of_unwrap(s: Session, header: usize, body: usize, out: usize) -> u8
+    ensures { λ r. ⌜ r ≡ unwrapRefusal s header body out false ⌝ }
+{
+    of_pair(s, header, body, out < body)
 }
