@@ -1,7 +1,7 @@
 /* Feefledown: SpongeWrap sessions and SHA3-256 for the desks' C programs.
 
    A session travels as an image of FEEFLEDOWN_IMAGE bytes, which the caller keeps: 200 bytes of state, then the rate (2), the tag
-   length (2), the pairs (4) and the permutation calls (8), big-endian. It holds the key's whole strength: keep it secret.
+   length (2), the pairs (4) and the permutation calls (8), big-endian. Keep it secret: whoever has it can open what follows.
 
    Every function answers 0, or the number of a refusal. A refused call writes to no buffer at all, the image included. On success
    only the first bytes needed are written.

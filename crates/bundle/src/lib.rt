@@ -24,7 +24,7 @@ pub const NO_LABEL: u8 = 11;
 // The version, and the settings of its session.
 const VERSION: u8 = 1;
 
-const RATE: u16 = 136;
+pub const RATE: u16 = 136;
 
 pub const TAG: usize = 16;
 

@@ -1,5 +1,5 @@
 -- The duplex construction over any permutation f of 25 lanes of w bits, at a rate of R bytes
--- ("Duplexing the sponge", section 3; document 01, "Blocks").
+-- (document 01, "Blocks" and "SpongeWrap"; the duplex construction of "Duplexing the sponge").
 use Prim.Native.Nat.{ℕ, _+_, _-_, _%_, _<_, _≤_}
 use mathlib.Core.Path.{_≡_}
 use mathlib.Core.List.{List, []}

@@ -1,4 +1,4 @@
--- The duplex object over Keccak-f[1600]: what is seen of one call, for every input ("Duplexing the sponge", section 3).
+-- The duplex object over Keccak-f[1600]: what is seen of one call, for every input (the duplex object of "Duplexing the sponge").
 use Prim.Native.Nat.{ℕ}
 use mathlib.Core.List.{List}
 use mathlib.Core.Bool.{Bool, true, false, not, _&&_, _||_}

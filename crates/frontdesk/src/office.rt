@@ -7,7 +7,7 @@ use spongewrap::Session;
 
 // A new session from a key. A refused key gives a session that every call refuses.
 pub fn open_session(key: &[u8]) -> Session {
-    let answer = Session::open(key);
+    let answer = spongewrap::open(key, bundle::RATE, bundle::TAG as u16);
     answer.session
 }
 

@@ -1,5 +1,5 @@
--- SpongeWrap over any permutation f of 25 lanes of w bits, at a rate of R bytes ("Duplexing the sponge", algorithm 3;
--- document 01, "SpongeWrap"). Each string goes through the duplex piece by piece; the two numbers are the frame bits of
+-- SpongeWrap over any permutation f of 25 lanes of w bits, at a rate of R bytes (document 01, "SpongeWrap"; the mode of that
+-- name in "Duplexing the sponge"). Each string goes through the duplex piece by piece; the two numbers are the frame bits of
 -- its pieces, of all but the last and of the last: headers have one sense, the key and bodies the other.
 use Prim.Native.Nat.{ℕ}
 use mathlib.Core.List.{List}

@@ -34,7 +34,7 @@ impl Session {
 
     pub const TAG: u16 = 16;
 
-    // A session from a key, with the settings that are not stated.
+    // A session from a key, with the default settings.
     pub fn open(key: &[u8]) -> Answer
         ensures { λ r. ⌜ r ≡ opens (now (key .entry)) defaultRate defaultTag ⌝ }
     {
