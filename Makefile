@@ -38,7 +38,9 @@ desk: lib
 	./target/desk-c++ > target/desk.out
 	if command -v valgrind > target/valgrind.path; then valgrind -q --error-exitcode=1 ./target/desk > target/desk.out; fi
 
+# Both archives and the lister beside the reference.
 compare: probe desk
+	rt check lister
 	cd rust && $(CARGO) test --release --offline
 
 bench: probe

@@ -3,7 +3,7 @@
 //! An answer carries a place times 256, so places here stay under 2^56.
 
 use compare::bundles::{add, open_entry, start, survey};
-use inputs::bundles::{self, bundle_of, entry, refused, Seen};
+use inputs::bundles::{self, any_bundle, bundle_of, entry, refused, Seen};
 use inputs::random::Random;
 use reference::bundle;
 use reference::spongewrap::Session;
@@ -229,25 +229,7 @@ fn random_bundles() {
     let mut random = Random::new(47);
     let image = session(&mut random).to_image();
     for _ in 0..3_000 {
-        let mut entries = Vec::new();
-        for _ in 0..random.below(5) {
-            let (header, body) = (
-                random.pick(&[0, 15, 16, 64, 65]),
-                random.pick(&[0, 0, 1, 200]),
-            );
-            let mut entry = entry(&random.bytes(header), body);
-            if random.below(8) == 0 {
-                entry[random.below(6)] = random.pick(&[0, 1, 0x0F, 0x10, 0x11, 0xFF]);
-            }
-            entries.push(entry);
-        }
-        let mut bundle = bundle_of(&entries);
-        if random.below(6) == 0 {
-            bundle[random.below(5)] = random.pick(&[0, 1, 2, 0x80, 0xFF]);
-        }
-        if random.below(6) == 0 {
-            bundle.truncate(random.below(12));
-        }
+        let bundle = any_bundle(&mut random);
         surveyed(&bundle);
         let place = random.pick(&[5, 43, 0, 1, 4]);
         opened(&image, &bundle, place, &random.bytes(200));

@@ -1,6 +1,8 @@
 //! Calls on bundles by both sides.
 
 use crate::buffers::{self, agreed, reading, seen};
+use crate::random::Random;
+use crate::sessions::{damage, flip, string};
 use reference::bundle::{self, Refused};
 use reference::desk::on_image;
 
@@ -100,4 +102,52 @@ pub fn entry(header: &[u8], body: usize) -> Vec<u8> {
 pub fn bundle_of(entries: &[Vec<u8>]) -> Vec<u8> {
     let rest = entries.concat();
     [&[1], &(rest.len() as u32).to_be_bytes()[..], &rest].concat()
+}
+
+/// States where a bundle ends.
+pub fn state_end(bundle: &mut [u8], end: usize) {
+    let rest = end as u32 - 5;
+    bundle[1..5].copy_from_slice(&rest.to_be_bytes());
+}
+
+/// Any entries in a bundle that is whole or damaged.
+pub fn any_bundle(random: &mut Random) -> Vec<u8> {
+    let bundle = bundle_of(&any_entries(random));
+    whole_or_damaged(random, bundle)
+}
+
+/// Entries with lengths around the limits of labels, and a wild length now and then.
+fn any_entries(random: &mut Random) -> Vec<Vec<u8>> {
+    let mut entries = Vec::new();
+    for _ in 0..random.below(6) {
+        let header = random.pick(&[0, 15, 16, 64, 65, 300]);
+        let mut entry = entry(&random.bytes(header), random.pick(&[0, 0, 1, 200]));
+        if random.below(8) == 0 {
+            entry[random.below(6)] = random.pick(&[0, 1, 0x0F, 0x10, 0x11, 0xFF]);
+        }
+        entries.push(entry);
+    }
+    entries
+}
+
+/// The bundle as it is, cut or changed, or any bytes in its place. In half of these the stated
+/// length is put right, so that it is not all that is wrong.
+pub fn whole_or_damaged(random: &mut Random, bundle: Vec<u8>) -> Vec<u8> {
+    let mut bundle = bundle;
+    match random.below(7) {
+        0 => bundle.truncate(random.below(bundle.len() + 1)),
+        1 => damage(random, &mut bundle),
+        2 => {
+            let bit = random.below(8 * bundle.len().min(60));
+            flip(&mut bundle, bit);
+        }
+        3 => bundle[random.below(5)] = random.pick(&[0, 1, 2, 0x80, 0xFF]),
+        4 => bundle = string(random),
+        _ => {}
+    }
+    let end = bundle.len();
+    if end >= 5 && random.below(2) == 0 {
+        state_end(&mut bundle, end);
+    }
+    bundle
 }

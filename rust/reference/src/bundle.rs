@@ -2,6 +2,7 @@
 //!
 //! Every function takes bytes as they come. A refusal carries the place that document 01 names.
 
+use crate::duplex::blocks;
 use crate::spongewrap::{self, check_lengths, Refusal, Session};
 use std::ops::RangeInclusive;
 
@@ -16,7 +17,7 @@ pub const LABEL: Refusal = 11;
 const THIS_VERSION: u8 = 1;
 
 /// The bytes before entry zero: the version and the stated length.
-const START: usize = 5;
+pub const START: usize = 5;
 
 /// The bytes before an entry's header: its two lengths.
 const LENGTHS: usize = 6;
@@ -54,15 +55,15 @@ fn refuse_if(fault: bool, number: Refusal, place: usize) -> Result<(), Refused> 
 }
 
 /// One entry's parts, and the place after it.
-struct Entry<'a> {
-    header: &'a [u8],
-    ciphertext: &'a [u8],
-    tag: &'a [u8],
-    end: usize,
+pub struct Entry<'a> {
+    pub header: &'a [u8],
+    pub ciphertext: &'a [u8],
+    pub tag: &'a [u8],
+    pub end: usize,
 }
 
 /// The entry whose first byte is at a place, if it is well formed and there to its end.
-fn entry_at(bundle: &[u8], place: usize) -> Option<Entry<'_>> {
+pub fn entry_at(bundle: &[u8], place: usize) -> Option<Entry<'_>> {
     let (lengths, rest) = bundle.get(place..)?.split_at_checked(LENGTHS)?;
     let header_length = number(&lengths[..2]);
     let body_length = number(&lengths[2..]);
@@ -78,6 +79,12 @@ fn entry_at(bundle: &[u8], place: usize) -> Option<Entry<'_>> {
         tag,
         end: bundle.len() - rest.len(),
     })
+}
+
+/// The permutation calls of an entry whose header and body have those lengths, without the key's.
+pub fn calls_of(header: usize, body: usize) -> u64 {
+    let rate = BUNDLE_RATE.into();
+    blocks(header, rate) + blocks(body, rate) + blocks(BUNDLE_TAG.into(), rate) - 1
 }
 
 /// The number that bytes spell, big-endian.

@@ -53,3 +53,11 @@ pub fn pieces(string: &[u8], rate: usize) -> Vec<&[u8]> {
         _ => string.chunks(rate - 1).collect(),
     }
 }
+
+/// How many blocks a string of that length takes.
+pub fn blocks(length: usize, rate: usize) -> u64 {
+    match length {
+        0 => 1,
+        _ => length.div_ceil(rate - 1) as u64,
+    }
+}

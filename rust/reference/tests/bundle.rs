@@ -42,6 +42,18 @@ fn survey_of_the_worked_example() {
     assert_eq!(survey(&shorter), refused(9, 43));
 }
 
+/// The lines of document 01's listing, entry by entry.
+#[test]
+fn entries_of_the_worked_example() {
+    let bundle = worked_example();
+    let listed = [5, 43].map(|place| {
+        let entry = entry_at(&bundle, place).unwrap();
+        let (header, body) = (entry.header.len(), entry.ciphertext.len());
+        (header, body, calls_of(header, body), entry.end)
+    });
+    assert_eq!(listed, [(16, 0, 2, 43), (4, 136, 3, 205)]);
+}
+
 #[test]
 fn what_was_added_is_surveyed_and_opened() {
     let (bundle, mut reader) = (sealed(), session());

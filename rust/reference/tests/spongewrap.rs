@@ -1,14 +1,9 @@
 //! Sessions against document 01's worked examples and its third demand: whatever was done, one
 //! plain sponge over the padded blocks gives the same state, masks and tags.
 
-use reference::duplex::{padded, pieces};
+use reference::duplex::{blocks, padded, pieces};
 use reference::keccak::{bytes_of, lanes_of, permuted_1600};
 use reference::spongewrap::*;
-
-/// How many blocks a string of that length takes.
-fn blocks(length: usize, rate: usize) -> u64 {
-    pieces(&vec![0; length], rate).len() as u64
-}
 
 /// A string whose bytes differ from those of its neighbours.
 fn string(length: usize, seed: usize) -> Vec<u8> {
@@ -83,6 +78,17 @@ fn block_counts_of_document_01() {
         u64::from(MOST_PAIRS) * largest + blocks(256, 136),
         MOST_CALLS
     );
+}
+
+#[test]
+fn every_piece_takes_a_block() {
+    let bytes = string(1_000, 5);
+    for rate in [136, 168] {
+        for length in 0..=bytes.len() {
+            let pieces = pieces(&bytes[..length], rate);
+            assert_eq!(blocks(length, rate), pieces.len() as u64);
+        }
+    }
 }
 
 #[test]

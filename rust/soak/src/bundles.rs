@@ -3,9 +3,10 @@
 use crate::made_up::{around, body, header, once_in, room, wilder};
 use crate::Trial;
 use compare::bundles::{add, open_entry, start, survey};
-use inputs::bundles::{added, bundle_of, entry, opened, started, surveyed};
+use inputs::bundles::{self, added, bundle_of, entry, opened, started, surveyed};
+use inputs::bundles::{state_end, whole_or_damaged};
 use inputs::random::Random;
-use inputs::sessions::{damage, flip, string};
+use inputs::sessions::{damage, flip};
 use reference::bundle;
 use reference::spongewrap::{Session, MOST_BODY};
 
@@ -72,53 +73,13 @@ fn stated_end(buffer: &[u8]) -> usize {
     5 + u32::from_be_bytes(buffer[1..5].try_into().unwrap()) as usize
 }
 
-/// States where a bundle ends.
-fn state_end(bundle: &mut [u8], end: usize) {
-    let rest = end as u32 - 5;
-    bundle[1..5].copy_from_slice(&rest.to_be_bytes());
-}
-
-/// States a bundle's true length, so that a change of its length is not all that is wrong.
-fn put_right(bundle: &mut [u8]) {
-    if bundle.len() >= 5 {
-        state_end(bundle, bundle.len());
-    }
-}
-
-/// Bundles that are sound, cut, changed, or put together from any entries.
+/// Bundles that are sealed or put together from any entries, whole or damaged.
 fn any_bundle(random: &mut Random) -> Vec<u8> {
-    let mut bundle = match random.below(3) {
-        0 => bundle_of(&any_entries(random)),
-        _ => Sealed::new(random).whole(),
-    };
-    match random.below(6) {
-        0 => bundle.truncate(random.below(bundle.len() + 1)),
-        1 => damage(random, &mut bundle),
-        2 => {
-            let bit = random.below(8 * bundle.len().min(60));
-            flip(&mut bundle, bit);
-        }
-        3 => bundle = string(random),
-        _ => {}
+    if once_in(random, 3) {
+        return bundles::any_bundle(random);
     }
-    if once_in(random, 2) {
-        put_right(&mut bundle);
-    }
-    bundle
-}
-
-/// Entries with lengths around the limits of labels, and a wild length now and then.
-fn any_entries(random: &mut Random) -> Vec<Vec<u8>> {
-    let mut entries = Vec::new();
-    for _ in 0..random.below(6) {
-        let header = random.pick(&[0, 15, 16, 64, 65, 300]);
-        let mut entry = entry(&random.bytes(header), random.pick(&[0, 0, 1, 200]));
-        if once_in(random, 8) {
-            entry[random.below(6)] = random.pick(&[0, 1, 0x0F, 0x10, 0x11, 0xFF]);
-        }
-        entries.push(entry);
-    }
-    entries
+    let bundle = Sealed::new(random).whole();
+    whole_or_damaged(random, bundle)
 }
 
 /// A session's image, with a wild number or damage now and then.
