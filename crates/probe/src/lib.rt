@@ -6,6 +6,9 @@ use bundle::Surveyed;
 // The number for a buffer of another length than is asked for.
 const LENGTH: u8 = 6;
 
+// How many bytes a session's image has.
+const IMAGE: usize = 216;
+
 // A state of 200 bytes in block order, permuted where it stands.
 #[no_mangle]
 pub extern "C" fn probe_permute(state: &mut [u8]) -> u8 {
@@ -85,7 +88,7 @@ pub extern "C" fn probe_running_wrap(
     body: &[u8],
     out: &mut [u8],
 ) -> u8 {
-    if image.len() != 216 {
+    if image.len() != IMAGE {
         return LENGTH;
     }
     let session = image::session_of(&image[..]);
@@ -100,7 +103,7 @@ pub extern "C" fn probe_running_unwrap(
     tag: &[u8],
     body: &mut [u8],
 ) -> u8 {
-    if image.len() != 216 {
+    if image.len() != IMAGE {
         return LENGTH;
     }
     let session = image::session_of(&image[..]);
@@ -153,7 +156,7 @@ pub extern "C" fn probe_open_entry(
     place: u64,
     body: &mut [u8],
 ) -> u64 {
-    if image.len() != 216 {
+    if image.len() != IMAGE {
         return told(LENGTH, 0);
     }
     let session = image::session_of(&image[..]);
@@ -165,7 +168,7 @@ pub extern "C" fn probe_open_entry(
 
 #[no_mangle]
 pub extern "C" fn probe_start(image: &mut [u8], label: &[u8], bundle: &mut [u8]) -> u64 {
-    if image.len() != 216 {
+    if image.len() != IMAGE {
         return told(LENGTH, 0);
     }
     let session = image::session_of(&image[..]);
@@ -179,7 +182,7 @@ pub extern "C" fn probe_add(
     body: &[u8],
     bundle: &mut [u8],
 ) -> u64 {
-    if image.len() != 216 {
+    if image.len() != IMAGE {
         return told(LENGTH, 0);
     }
     let session = image::session_of(&image[..]);
