@@ -2,12 +2,18 @@
 ghost use mathlib.Core.Path.{_≡_};
 ghost use lib.ListN.{length};
 use bundle::Surveyed;
+use duplex::Duplex;
 
 // The number for a buffer of another length than is asked for.
 const LENGTH: u8 = 6;
 
-// How many bytes a session's image has.
+// How many bytes a state has, and a session's image.
+const STATE: usize = 200;
+
 const IMAGE: usize = 216;
+
+// How many bytes a duplex object has: the state in block order, then the rate, big-endian.
+const OBJECT: usize = 202;
 
 // A state of 200 bytes in block order, permuted where it stands.
 #[no_mangle]
@@ -18,7 +24,7 @@ pub extern "C" fn probe_permute(state: &mut [u8]) -> u8 {
 // The same, many times in one call.
 #[no_mangle]
 pub extern "C" fn probe_permute_times(state: &mut [u8], times: u64) -> u8 {
-    if state.len() != 200 {
+    if state.len() != STATE {
         return LENGTH;
     }
     let lanes = sponge::mixed([0u64; 25], &state[..]);
@@ -56,6 +62,55 @@ pub extern "C" fn probe_shake128(message: &[u8], out: &mut [u8]) {
 #[no_mangle]
 pub extern "C" fn probe_shake256(message: &[u8], out: &mut [u8]) {
     sponge::shake256(message, out);
+}
+
+// The duplex object that its bytes hold.
+fn object_of(object: &[u8]) -> Duplex
+    requires { ⌜ length (now object) ≡ 202 ⌝ }
+{
+    let lanes = sponge::mixed([0u64; 25], &object[..STATE]);
+    Duplex {
+        lanes,
+        rate: fields::read_u16(object, STATE),
+    }
+}
+
+// A duplex object laid over the whole of its bytes.
+fn put_object(duplex: Duplex, object: &mut [u8])
+    requires { ⌜ length (now object) ≡ 202 ⌝ }
+{
+    let lanes = duplex.lanes;
+    sponge::put_bytes(lanes, &mut object[..STATE]);
+    fields::put_u16(object, STATE, duplex.rate);
+}
+
+// A fresh duplex object at any rate.
+#[no_mangle]
+pub extern "C" fn probe_new_duplex(rate: u16, object: &mut [u8]) -> u8 {
+    if object.len() != OBJECT {
+        return LENGTH;
+    }
+    put_object(Duplex::new(rate), object);
+    0
+}
+
+// One duplexing, which answers 0 where it is done and 1 where it is not. The object that it left goes back either way.
+#[no_mangle]
+pub extern "C" fn probe_duplexing(
+    object: &mut [u8],
+    piece: &[u8],
+    frame: bool,
+    out: &mut [u8],
+) -> u8 {
+    if object.len() != OBJECT {
+        return LENGTH;
+    }
+    let before = object_of(&object[..]);
+    let answer = before.duplexing(piece, frame, out);
+    let done = answer.done;
+    let duplex = answer.duplex;
+    put_object(duplex, object);
+    if done { 0 } else { 1 }
 }
 
 // A session opened into an image, at any rate and tag length.

@@ -5,6 +5,7 @@
 //! exports yet still serves the earlier tests.
 
 pub mod bundles;
+pub mod duplex;
 pub mod hashes;
 pub mod permutation;
 pub mod running;

@@ -6,6 +6,7 @@
 
 pub mod buffers;
 pub mod bundles;
+pub mod duplex;
 pub mod hashes;
 pub mod permutation;
 pub mod random;

@@ -34,6 +34,22 @@ impl Duplex {
         self.calls += 1;
         bytes_of(&self.lanes)[..self.rate - 1].to_vec()
     }
+
+    /// The same into a lent output of at most R bytes; answers whether it was done. A rate that is
+    /// none, a longer piece or a longer output leaves the object and the output as they were.
+    pub fn duplexing_into(&mut self, piece: &[u8], frame: bool, out: &mut [u8]) -> bool {
+        if !is_rate(self.rate) || piece.len() >= self.rate || out.len() > self.rate {
+            return false;
+        }
+        self.duplexing(piece, frame);
+        out.copy_from_slice(&bytes_of(&self.lanes)[..out.len()]);
+        true
+    }
+}
+
+/// Whether a rate is one of the two that there are.
+pub fn is_rate(rate: usize) -> bool {
+    rate == 136 || rate == 168
 }
 
 /// A piece as a block of R bytes: the frame bit follows it, then pad10*1.

@@ -1,7 +1,7 @@
 //! Sessions: SpongeWrap of "Duplexing the sponge", with the limits and refusal numbers of
 //! document 01.
 
-use crate::duplex::{pieces, Duplex};
+use crate::duplex::{is_rate, pieces, Duplex};
 use crate::keccak::Lanes;
 use std::ops::RangeInclusive;
 
@@ -53,7 +53,7 @@ pub struct Session {
 impl Session {
     /// Opens a session: refusals in the order 1, 2, 3, then the key.
     pub fn open(key: &[u8], rate: u16, tag: u16) -> Result<Session, Refusal> {
-        refuse_if(!is_rate(rate), RATE)?;
+        refuse_if(!is_rate(rate.into()), RATE)?;
         refuse_if(!KEYS_AND_TAGS.contains(&key.len()), KEY)?;
         refuse_if(!KEYS_AND_TAGS.contains(&tag.into()), TAG_LENGTH)?;
         let mut duplex = Duplex::new([0; 25], rate.into());
@@ -103,7 +103,7 @@ impl Session {
 
     /// What every call that seals or opens a pair asks of its session: 1, 3, 7.
     pub fn check(&self) -> Result<(), Refusal> {
-        refuse_if(!is_rate(self.rate), RATE)?;
+        refuse_if(!is_rate(self.rate.into()), RATE)?;
         refuse_if(!KEYS_AND_TAGS.contains(&self.tag.into()), TAG_LENGTH)?;
         refuse_if(self.pairs >= MOST_PAIRS || self.calls > MOST_CALLS, SPENT)
     }
@@ -127,11 +127,6 @@ pub fn refuse_if(fault: bool, number: Refusal) -> Result<(), Refusal> {
         true => Err(number),
         false => Ok(()),
     }
-}
-
-/// Whether a rate is one of the two that sessions have.
-fn is_rate(rate: u16) -> bool {
-    rate == 136 || rate == 168
 }
 
 /// The limits of a pair: 4, 5.

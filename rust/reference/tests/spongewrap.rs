@@ -1,7 +1,7 @@
-//! Sessions against document 01's worked examples and its third demand: whatever was done, one
-//! plain sponge over the padded blocks gives the same state, masks and tags.
+//! The duplex object and sessions against document 01's worked examples and its third demand:
+//! whatever was done, one plain sponge over the padded blocks gives the same state, masks and tags.
 
-use reference::duplex::{blocks, padded, pieces};
+use reference::duplex::{blocks, padded, pieces, Duplex};
 use reference::keccak::{bytes_of, lanes_of, permuted_1600};
 use reference::spongewrap::*;
 
@@ -20,6 +20,15 @@ struct Plain {
 }
 
 impl Plain {
+    /// A sponge that has absorbed nothing.
+    fn new(rate: usize) -> Self {
+        Plain {
+            state: [0; 200],
+            rate,
+            blocks: 0,
+        }
+    }
+
     /// Absorbs one string's blocks; the pieces before the last have the frame bit `more`.
     fn absorb(&mut self, string: &[u8], more: bool) {
         let pieces = pieces(string, self.rate);
@@ -91,6 +100,40 @@ fn every_piece_takes_a_block() {
     }
 }
 
+/// An output may have every length up to the rate.
+#[test]
+fn one_plain_sponge_gives_every_output() {
+    for rate in [136, 168] {
+        let (mut duplex, mut plain) = (Duplex::new([0; 25], rate), Plain::new(rate));
+        for length in 0..=rate {
+            let (piece, frame) = (string(rate - length.max(1), length), length % 2 == 0);
+            let mut out = vec![0; length];
+            assert!(duplex.duplexing_into(&piece, frame, &mut out));
+            plain.absorb_piece(&piece, frame);
+            assert_eq!(out, plain.state[..length]);
+        }
+    }
+}
+
+#[test]
+fn past_its_limits_a_duplexing_does_nothing() {
+    for (rate, piece, out) in [
+        (136, 136, 0),
+        (136, 0, 137),
+        (168, 168, 0),
+        (168, 0, 169),
+        (0, 0, 0),
+        (135, 0, 0),
+        (200, 0, 0),
+    ] {
+        let lanes = std::array::from_fn(|i| i as u64);
+        let (mut duplex, mut lent) = (Duplex::new(lanes, rate), vec![0x5A; out]);
+        assert!(!duplex.duplexing_into(&vec![1; piece], true, &mut lent));
+        assert_eq!((duplex.lanes, duplex.rate, duplex.calls), (lanes, rate, 0));
+        assert_eq!(lent, vec![0x5A; out]);
+    }
+}
+
 #[test]
 fn session_counts_of_document_01() {
     let mut session = Session::open(&[7; 32], 136, 16).unwrap();
@@ -111,11 +154,7 @@ fn one_plain_sponge_gives_all() {
     for (rate, tag) in [(136, 16), (136, 136), (136, 256), (168, 32), (168, 256)] {
         let key = string(200, tag);
         let mut session = Session::open(&key, rate as u16, tag as u16).unwrap();
-        let mut plain = Plain {
-            state: [0; 200],
-            rate,
-            blocks: 0,
-        };
+        let mut plain = Plain::new(rate);
         plain.absorb(&key, true);
         for (number, length) in [0, 1, rate - 2, rate - 1, rate, 3 * rate]
             .iter()

@@ -2,14 +2,16 @@
 
 use crate::made_up::{around, message, once_in, room};
 use crate::{sessions, Trial};
+use compare::duplex::{duplexing, new};
 use compare::hashes::{sha3_256, shake128, shake256};
 use compare::permutation::{permute, permute_times};
 use compare::running;
 use compare::sessions::{open, unwrap, wrap};
+use inputs::duplex::{duplexed, made, object, OBJECT};
 use inputs::hashes::{digested, filled, Shake};
 use inputs::permutation::permuted;
 use inputs::random::Random;
-use inputs::sessions::{length, tag_length, Calls, RATES, TAGS};
+use inputs::sessions::{damage, length, string, tag_length, Calls, RATES, TAGS};
 use reference::sponge;
 
 /// The archive's two calls on pairs.
@@ -22,12 +24,14 @@ const RUNNING: Calls = Calls {
 };
 
 /// Each export.
-pub const TRIALS: [Trial; 10] = [
+pub const TRIALS: [Trial; 12] = [
     ("probe_permute", try_permute),
     ("probe_permute_times", try_permute_times),
     ("probe_sha3_256", try_sha3_256),
     ("probe_shake128", try_shake128),
     ("probe_shake256", try_shake256),
+    ("probe_new_duplex", try_new_duplex),
+    ("probe_duplexing", try_duplexing),
     ("probe_open", try_open),
     ("probe_wrap", |random| sessions::wrap(random, CALLS)),
     ("probe_unwrap", |random| sessions::unwrap(random, CALLS)),
@@ -81,12 +85,38 @@ fn shake(random: &mut Random, library: Shake, reference: Shake) {
     filled(library, reference, &message, &room);
 }
 
-fn try_open(random: &mut Random) {
-    let (mut rate, mut tag) = (random.pick(&[136, 168]), tag_length(random));
+/// A rate, which is none of the two now and then.
+fn rate(random: &mut Random) -> u16 {
     match random.below(8) {
-        0 => rate = random.pick(&RATES),
-        1 => tag = random.pick(&TAGS),
-        2 => (rate, tag) = (random.word() as u16, random.word() as u16),
+        0 => random.pick(&RATES),
+        1 => random.word() as u16,
+        _ => random.pick(&[136, 168]),
+    }
+}
+
+fn try_new_duplex(random: &mut Random) {
+    let (rate, mut bytes) = (rate(random), random.bytes(OBJECT));
+    if once_in(random, 6) {
+        damage(random, &mut bytes);
+    }
+    made(new, rate, &bytes);
+}
+
+fn try_duplexing(random: &mut Random) {
+    let state = random.bytes(200).try_into().unwrap();
+    let mut bytes = object(&state, rate(random)).to_vec();
+    if once_in(random, 12) {
+        damage(random, &mut bytes);
+    }
+    let (piece, frame, room) = (string(random), once_in(random, 2), string(random));
+    duplexed(duplexing, &bytes, &piece, frame, &room);
+}
+
+fn try_open(random: &mut Random) {
+    let (rate, mut tag) = (rate(random), tag_length(random));
+    match random.below(8) {
+        0 => tag = random.pick(&TAGS),
+        1 => tag = random.word() as u16,
         _ => {}
     }
     sessions::open(random, |key, image| open(rate, tag, key, image), rate, tag);
