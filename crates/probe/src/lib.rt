@@ -1,8 +1,10 @@
 // Exports for tests and benchmarks, and nothing else: what the desks call is in `desk`.
 ghost use mathlib.Core.Path.{_≡_};
 ghost use lib.ListN.{length};
+use bundle::Entry;
 use bundle::Surveyed;
 use duplex::Duplex;
+use spongewrap::Session;
 
 // The number for a buffer of another length than is asked for.
 const LENGTH: u8 = 6;
@@ -14,6 +16,9 @@ const IMAGE: usize = 216;
 
 // How many bytes a duplex object has: the state in block order, then the rate, big-endian.
 const OBJECT: usize = 202;
+
+// How many bytes an entry's three numbers have.
+const ENTRY: usize = 24;
 
 // A state of 200 bytes in block order, permuted where it stands.
 #[no_mangle]
@@ -177,6 +182,15 @@ fn kept(answer: spongewrap::Answer, image: &mut [u8]) -> u8
     answer.number
 }
 
+// The open that takes no settings. A refused one leaves its session of zeros in the image.
+#[no_mangle]
+pub extern "C" fn probe_default_open(key: &[u8], image: &mut [u8]) -> u8 {
+    if image.len() != IMAGE {
+        return LENGTH;
+    }
+    kept(Session::open(key), image)
+}
+
 // An answer with its place in one number: the place stands above the low byte, less what does not fit there.
 fn told(number: u8, place: usize) -> u64 {
     number as u64 + place as u64 % 0x0100_0000_0000_0000 * 0x100
@@ -189,6 +203,31 @@ pub extern "C" fn probe_survey(bundle: &[u8]) -> u64 {
         Surveyed::Entries(count) => told(0, count),
         Surveyed::Refused { number, place } => told(number, place),
     }
+}
+
+// The entry at a place: its header's length, its body's and the next place go to `entry`, eight bytes each, big-endian.
+// Answers 0, or where there is none 1, 2 or 3 for its three causes in the order of the survey.
+#[no_mangle]
+pub extern "C" fn probe_entry_at(bundle: &[u8], place: u64, entry: &mut [u8]) -> u8 {
+    if entry.len() != ENTRY {
+        return LENGTH;
+    }
+    match bundle::entry_at(bundle, place as usize) {
+        Entry::Whole { header, body, next } => {
+            fields::put_u64(entry, 0, header as u64);
+            fields::put_u64(entry, 8, body as u64);
+            fields::put_u64(entry, 16, next as u64);
+            0
+        }
+        Entry::Short => 1,
+        Entry::Large => 2,
+        Entry::Past => 3,
+    }
+}
+
+#[no_mangle]
+pub extern "C" fn probe_calls_of(header: u64, body: u64) -> u64 {
+    bundle::calls_of(header as usize, body as usize)
 }
 
 // A bundle's answer: on success the image holds the new session.

@@ -1,8 +1,16 @@
-//! The exports of bundles. An answer is a refusal's number, or 0, plus 256 times a place or a
-//! number of entries.
+//! The exports of bundles. An answer that carries a place or a number of entries is a refusal's
+//! number, or 0, plus 256 times what it carries.
 
 extern "C" {
     fn probe_survey(bundle: *const u8, bundle_length: usize) -> u64;
+    fn probe_entry_at(
+        bundle: *const u8,
+        bundle_length: usize,
+        place: u64,
+        entry: *mut u8,
+        entry_length: usize,
+    ) -> u8;
+    fn probe_calls_of(header: u64, body: u64) -> u64;
     fn probe_open_entry(
         image: *mut u8,
         image_length: usize,
@@ -37,6 +45,30 @@ extern "C" {
 pub fn survey(bundle: &[u8]) -> u64 {
     // SAFETY: pointer and length are those of one slice, lent for the call.
     unsafe { probe_survey(bundle.as_ptr(), bundle.len()) }
+}
+
+/// Writes the three numbers of the entry at a place: the lengths of header and body and the next
+/// place, eight bytes each. Answers 0, or 1, 2 or 3 for why there is none, or 6 for another length
+/// than 24.
+#[inline]
+pub fn entry_at(bundle: &[u8], place: u64, entry: &mut [u8]) -> u8 {
+    // SAFETY: each pointer and length are those of one slice, lent for the call.
+    unsafe {
+        probe_entry_at(
+            bundle.as_ptr(),
+            bundle.len(),
+            place,
+            entry.as_mut_ptr(),
+            entry.len(),
+        )
+    }
+}
+
+/// The permutation calls of an entry with those lengths, without the key's.
+#[inline]
+pub fn calls_of(header: u64, body: u64) -> u64 {
+    // SAFETY: only numbers are passed.
+    unsafe { probe_calls_of(header, body) }
 }
 
 /// Opens the entry at a place; accepted, the answer carries the next place.

@@ -1,8 +1,8 @@
 //! The library's sessions against the reference: answers, images and every byte of every buffer.
 
-use compare::sessions::{open, unwrap, wrap};
+use compare::sessions::{default_open, open, unwrap, wrap};
 use inputs::random::Random;
-use inputs::sessions::{Calls, Seen};
+use inputs::sessions::{opened_by_default, Calls, Seen};
 use reference::desk::IMAGE;
 
 inputs::session_tests!(Calls { wrap, unwrap });
@@ -43,6 +43,26 @@ fn opens_by_every_key_length() {
     }
 }
 
+/// The open that takes no settings takes rate 136 and tag 16, and gives zeros where it refuses.
+#[test]
+fn default_opens_by_every_key_length() {
+    let mut random = Random::new(36);
+    for length in (0..=300).chain([1_000, 65_536]) {
+        let (key, before) = (random.bytes(length), random.bytes(IMAGE));
+        let seen = opened_by_default(default_open, &key, &before);
+        let well = (16..=256).contains(&length);
+        assert_eq!(seen.answer, if well { 0 } else { 2 });
+        let stated = opened(136, 16, &key, &[0; IMAGE]);
+        assert_eq!(seen.image, stated.image, "key of {length}");
+    }
+    for length in [0, 1, 200, 215, 217, 432] {
+        for key in [15, 16] {
+            let (key, before) = (random.bytes(key), random.bytes(length));
+            assert_eq!(opened_by_default(default_open, &key, &before).answer, 6);
+        }
+    }
+}
+
 /// An image of another length is refused 6, whatever else is wrong.
 #[test]
 fn opens_into_images_of_other_lengths() {
@@ -60,6 +80,7 @@ fn opens_into_images_of_other_lengths() {
 fn empty_slices() {
     let (mut sender, mut out) = ([0; IMAGE], [0; 16]);
     assert_eq!(open(136, 16, &[], &mut sender), 2);
+    assert_eq!(default_open(&[], &mut sender), 2);
     assert_eq!(open(136, 16, &[1; 16], &mut sender), 0);
     let mut receiver = sender;
     assert_eq!(wrap(&mut sender, &[], &[], &mut []), 6);

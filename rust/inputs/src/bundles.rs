@@ -3,8 +3,9 @@
 use crate::buffers::{self, agreed, reading, seen};
 use crate::random::Random;
 use crate::sessions::{damage, flip, string};
-use reference::bundle::{self, Refused};
+use reference::bundle::{self, Entry, Fault, Refused};
 use reference::desk::on_image;
+use reference::spongewrap::ROOM;
 
 /// What both sides leave of a call.
 pub type Seen = buffers::Seen<u64>;
@@ -27,6 +28,51 @@ pub fn surveyed(survey: impl FnOnce(&[u8]) -> u64, bundle: &[u8]) -> u64 {
     let answer = reading([bundle], |[bundle]| survey(bundle));
     assert_eq!(answer, coded(bundle::survey(bundle)), "answers differ");
     answer
+}
+
+/// How many bytes the three numbers of an entry take.
+pub const NUMBERS: usize = 24;
+
+/// Looks at a place by both: the entry's three numbers go to a buffer that holds `room` before.
+pub fn looked_at(
+    entry_at: impl FnOnce(&[u8], u64, &mut [u8]) -> u8,
+    bundle: &[u8],
+    place: u64,
+    room: &[u8],
+) -> buffers::Seen<u8> {
+    let library = seen(&[], room, |_, numbers| {
+        reading([bundle], |[bundle]| entry_at(bundle, place, numbers))
+    });
+    let reference = seen(&[], room, |_, numbers| {
+        let Ok(numbers) = <&mut [u8; NUMBERS]>::try_from(numbers) else {
+            return ROOM;
+        };
+        match bundle::entry_at(bundle, place as usize) {
+            Ok(entry) => {
+                *numbers = numbers_of(&entry);
+                0
+            }
+            Err(Fault::Short) => 1,
+            Err(Fault::Large) => 2,
+            Err(Fault::Past) => 3,
+        }
+    });
+    agreed(library, reference)
+}
+
+/// An entry's numbers, big-endian: the lengths of header and body, and the next place.
+fn numbers_of(entry: &Entry) -> [u8; NUMBERS] {
+    let numbers = [entry.header.len(), entry.ciphertext.len(), entry.end];
+    let bytes = numbers.map(|number| (number as u64).to_be_bytes());
+    bytes.concat().try_into().unwrap()
+}
+
+/// Counts an entry's calls by both.
+pub fn counted(calls_of: impl FnOnce(u64, u64) -> u64, header: u64, body: u64) -> u64 {
+    let calls = calls_of(header, body);
+    let reference = bundle::calls_of(header as usize, body as usize);
+    assert_eq!(calls, reference, "answers differ");
+    calls
 }
 
 /// Opens the entry at a place by both into a buffer that holds `room` before.

@@ -3,7 +3,7 @@
 use crate::buffers::{self, agreed, reading, seen};
 use crate::random::Random;
 use reference::desk::{self, on_image, IMAGE};
-use reference::spongewrap::{Refusal, Session};
+use reference::spongewrap::{Refusal, Session, ROOM};
 
 /// What both sides leave of a call.
 pub type Seen = buffers::Seen<u8>;
@@ -26,6 +26,25 @@ pub fn opened(
     });
     let reference = seen(image, &[], |image, _| {
         number(desk::open(rate, tag, key, image))
+    });
+    agreed(library, reference)
+}
+
+/// Opens a session by both without settings; a refused open leaves the session of zeros.
+pub fn opened_by_default(
+    open: impl FnOnce(&[u8], &mut [u8]) -> u8,
+    key: &[u8],
+    image: &[u8],
+) -> Seen {
+    let library = seen(image, &[], |image, _| {
+        reading([key], |[key]| open(key, image))
+    });
+    let reference = seen(image, &[], |image, _| {
+        let Ok(image) = <&mut [u8; IMAGE]>::try_from(image) else {
+            return ROOM;
+        };
+        *image = [0; IMAGE];
+        number(desk::open(136, 16, key, image))
     });
     agreed(library, reference)
 }

@@ -62,22 +62,34 @@ pub struct Entry<'a> {
     pub end: usize,
 }
 
+/// Why there is no entry at a place.
+#[derive(Clone, Copy, Debug, PartialEq)]
+pub enum Fault {
+    /// Under 6 bytes are left.
+    Short,
+    /// The body length is over the limit.
+    Large,
+    /// There are not enough bytes for the entry.
+    Past,
+}
+
 /// The entry whose first byte is at a place, if it is well formed and there to its end.
-pub fn entry_at(bundle: &[u8], place: usize) -> Option<Entry<'_>> {
-    let (lengths, rest) = bundle.get(place..)?.split_at_checked(LENGTHS)?;
+pub fn entry_at(bundle: &[u8], place: usize) -> Result<Entry<'_>, Fault> {
+    let left = bundle.get(place..).unwrap_or(&[]);
+    let (lengths, rest) = left.split_at_checked(LENGTHS).ok_or(Fault::Short)?;
     let header_length = number(&lengths[..2]);
     let body_length = number(&lengths[2..]);
     if body_length > spongewrap::MOST_BODY {
-        return None;
+        return Err(Fault::Large);
     }
-    let (header, rest) = rest.split_at_checked(header_length)?;
-    let (ciphertext, rest) = rest.split_at_checked(body_length)?;
-    let (tag, rest) = rest.split_at_checked(BUNDLE_TAG.into())?;
-    Some(Entry {
+    let (header, rest) = rest.split_at_checked(header_length).ok_or(Fault::Past)?;
+    let (ciphertext, rest) = rest.split_at_checked(body_length).ok_or(Fault::Past)?;
+    let tag = rest.get(..BUNDLE_TAG.into()).ok_or(Fault::Past)?;
+    Ok(Entry {
         header,
         ciphertext,
         tag,
-        end: bundle.len() - rest.len(),
+        end: place + LENGTHS + header_length + body_length + tag.len(),
     })
 }
 
@@ -118,7 +130,7 @@ pub fn survey(bundle: &[u8]) -> Result<u64, Refused> {
             number: MALFORMED,
             place: place as u64,
         };
-        let entry = entry_at(bundle, place).ok_or(malformed)?;
+        let entry = entry_at(bundle, place).map_err(|_| malformed)?;
         labelled |= entries == 0 && is_label(entry.header) && entry.ciphertext.is_empty();
         entries += 1;
         place = entry.end;
@@ -149,10 +161,8 @@ pub fn open_entry(
 ) -> Result<u64, Refused> {
     let here = |number| Refused { number, place };
     check_session(session).map_err(here)?;
-    let entry = usize::try_from(place)
-        .ok()
-        .and_then(|place| entry_at(bundle, place));
-    let entry = entry.ok_or(here(MALFORMED))?;
+    let at = usize::try_from(place).unwrap_or(usize::MAX);
+    let entry = entry_at(bundle, at).map_err(|_| here(MALFORMED))?;
     session
         .unwrap(entry.header, entry.ciphertext, entry.tag, body)
         .map_err(here)?;

@@ -82,6 +82,34 @@ fn survey_refuses_in_its_order() {
     assert_eq!(survey(&vec![2; 16_777_217]), refused(9, 0));
 }
 
+/// The three causes, each where the ones before it are not.
+#[test]
+fn places_without_an_entry() {
+    let fault = |bundle: &[u8], place| entry_at(bundle, place).err();
+    let entry = [0, 1, 0, 0, 0, 2, 9, 8, 8];
+    let whole = [&entry[..], &[7; 16]].concat();
+    assert_eq!(fault(&whole, 0), None);
+    assert_eq!(fault(&whole[..24], 0), Some(Fault::Past));
+    assert_eq!(fault(&entry[..6], 0), Some(Fault::Past));
+    assert_eq!(fault(&entry[..5], 0), Some(Fault::Short));
+    assert_eq!(fault(&[0, 0, 0, 0x10, 0, 0], 0), Some(Fault::Past));
+    assert_eq!(fault(&[0, 0, 0, 0x10, 0, 1], 0), Some(Fault::Large));
+    for place in [20, 25, 26, usize::MAX] {
+        assert_eq!(fault(&whole, place), Some(Fault::Short));
+    }
+}
+
+/// No length is too long to count the calls of.
+#[test]
+fn calls_of_any_lengths() {
+    assert_eq!(calls_of(0, 0), 2);
+    assert_eq!(calls_of(135, 136), 3);
+    assert_eq!(calls_of(65_535, 1_048_576), 486 + 7_768);
+    // 2^64 - 1 is 135 times 136,642,548,694,144,826 and 105 more.
+    let most = 136_642_548_694_144_827;
+    assert_eq!(calls_of(usize::MAX, usize::MAX), 2 * most);
+}
+
 /// Entry zero is judged last, after the entries behind it.
 #[test]
 fn entry_zero_is_judged_last() {

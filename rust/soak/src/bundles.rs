@@ -2,17 +2,21 @@
 
 use crate::made_up::{around, body, header, once_in, room, wilder};
 use crate::Trial;
-use compare::bundles::{add, open_entry, start, survey};
-use inputs::bundles::{self, added, bundle_of, entry, opened, started, surveyed};
-use inputs::bundles::{state_end, whole_or_damaged};
+use compare::bundles::{add, calls_of, entry_at, open_entry, start, survey};
+use inputs::bundles::{
+    self, added, bundle_of, counted, entry, looked_at, opened, started, state_end, surveyed,
+    whole_or_damaged, NUMBERS,
+};
 use inputs::random::Random;
 use inputs::sessions::{damage, flip};
 use reference::bundle;
 use reference::spongewrap::{Session, MOST_BODY};
 
 /// Each export.
-pub const TRIALS: [Trial; 4] = [
+pub const TRIALS: [Trial; 6] = [
     ("probe_survey", try_survey),
+    ("probe_entry_at", try_entry_at),
+    ("probe_calls_of", try_calls_of),
     ("probe_open_entry", try_open_entry),
     ("probe_start", try_start),
     ("probe_add", try_add),
@@ -114,6 +118,29 @@ fn try_survey(random: &mut Random) {
         false => any_bundle(random),
     };
     surveyed(survey, &bundle);
+}
+
+fn try_entry_at(random: &mut Random) {
+    let sealed = Sealed::new(random);
+    let (mut bundle, mut place) = (sealed.whole(), sealed.last as u64);
+    match random.below(6) {
+        0 => (bundle, place) = (any_bundle(random), 5),
+        1 => damage(random, &mut bundle),
+        2 => place = random.below(bundle.len() + 8) as u64,
+        3 => place = random.word() >> random.below(64),
+        _ => {}
+    }
+    let room = match once_in(random, 8) {
+        true => room(random, NUMBERS),
+        false => random.bytes(NUMBERS),
+    };
+    looked_at(entry_at, &bundle, place, &room);
+}
+
+fn try_calls_of(random: &mut Random) {
+    let mut length = || random.word() >> random.below(64);
+    let (header, body) = (length(), length());
+    counted(calls_of, header, body);
 }
 
 fn try_open_entry(random: &mut Random) {

@@ -60,6 +60,15 @@ pub fn key(random: &mut Random) -> Vec<u8> {
     random.bytes(length)
 }
 
+/// An image to open a session into, which has held anything; of another length now and then.
+pub fn blank(random: &mut Random) -> Vec<u8> {
+    let mut image = random.bytes(IMAGE);
+    if once_in(random, 6) {
+        damage(random, &mut image);
+    }
+    image
+}
+
 /// A session's image as it could be met: sound, with one number wild, with any bytes, or damaged.
 pub fn image(random: &mut Random) -> Vec<u8> {
     let mut image = session(random).to_image().to_vec();

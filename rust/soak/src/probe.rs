@@ -1,17 +1,17 @@
 //! Calls of libprobe.a but for the bundles.
 
-use crate::made_up::{around, message, once_in, room};
+use crate::made_up::{around, blank, key, message, once_in, room};
 use crate::{sessions, Trial};
 use compare::duplex::{duplexing, new};
 use compare::hashes::{sha3_256, shake128, shake256};
 use compare::permutation::{permute, permute_times};
 use compare::running;
-use compare::sessions::{open, unwrap, wrap};
+use compare::sessions::{default_open, open, unwrap, wrap};
 use inputs::duplex::{duplexed, made, object, OBJECT};
 use inputs::hashes::{digested, filled, Shake};
 use inputs::permutation::permuted;
 use inputs::random::Random;
-use inputs::sessions::{damage, length, string, tag_length, Calls, RATES, TAGS};
+use inputs::sessions::{damage, length, opened_by_default, string, tag_length, Calls, RATES, TAGS};
 use reference::sponge;
 
 /// The archive's two calls on pairs.
@@ -24,7 +24,7 @@ const RUNNING: Calls = Calls {
 };
 
 /// Each export.
-pub const TRIALS: [Trial; 12] = [
+pub const TRIALS: [Trial; 13] = [
     ("probe_permute", try_permute),
     ("probe_permute_times", try_permute_times),
     ("probe_sha3_256", try_sha3_256),
@@ -33,6 +33,7 @@ pub const TRIALS: [Trial; 12] = [
     ("probe_new_duplex", try_new_duplex),
     ("probe_duplexing", try_duplexing),
     ("probe_open", try_open),
+    ("probe_default_open", try_default_open),
     ("probe_wrap", |random| sessions::wrap(random, CALLS)),
     ("probe_unwrap", |random| sessions::unwrap(random, CALLS)),
     ("probe_running_wrap", |random| {
@@ -120,4 +121,9 @@ fn try_open(random: &mut Random) {
         _ => {}
     }
     sessions::open(random, |key, image| open(rate, tag, key, image), rate, tag);
+}
+
+fn try_default_open(random: &mut Random) {
+    let (key, image) = (key(random), blank(random));
+    opened_by_default(default_open, &key, &image);
 }

@@ -1,17 +1,14 @@
 //! Calls on sessions, which both archives have.
 
-use crate::made_up::{body, header, image, key, once_in, room};
+use crate::made_up::{blank, body, header, image, key, room};
 use inputs::random::Random;
 use inputs::sessions::{damage, opened, Calls, Letter};
-use reference::desk::{on_image, IMAGE};
+use reference::desk::on_image;
 use reference::spongewrap::Refusal;
 
 /// An open at a rate and tag length, into an image that has held anything.
 pub fn open(random: &mut Random, call: impl FnOnce(&[u8], &mut [u8]) -> u8, rate: u16, tag: u16) {
-    let (key, mut image) = (key(random), random.bytes(IMAGE));
-    if once_in(random, 6) {
-        damage(random, &mut image);
-    }
+    let (key, image) = (key(random), blank(random));
     opened(call, rate, tag, &key, &image);
 }
 
