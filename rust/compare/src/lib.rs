@@ -1,8 +1,6 @@
-//! The exports of libprobe.a as safe functions.
+//! The exports of libprobe.a as safe functions, a module for each stage of the library.
 //!
-//! Each stage of the library has its own module, and every function there is `inline`: a program
-//! asks the archive only for the symbols that it uses, so an archive that does not have the later
-//! exports yet still serves the earlier tests.
+//! Every function here is `inline`, so that a measurement sees little beside the export itself.
 
 pub mod bundles;
 pub mod duplex;
