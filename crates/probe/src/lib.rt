@@ -9,10 +9,8 @@ use spongewrap::Session;
 // The number for a buffer of another length than is asked for.
 const LENGTH: u8 = 6;
 
-// How many bytes a state has, and a session's image.
+// How many bytes a state has.
 const STATE: usize = 200;
-
-const IMAGE: usize = 216;
 
 // How many bytes a duplex object has: the state in block order, then the rate, big-endian.
 const OBJECT: usize = 202;
@@ -148,7 +146,7 @@ pub extern "C" fn probe_running_wrap(
     body: &[u8],
     out: &mut [u8],
 ) -> u8 {
-    if image.len() != IMAGE {
+    if image.len() != image::LENGTH {
         return LENGTH;
     }
     let session = image::session_of(&image[..]);
@@ -163,7 +161,7 @@ pub extern "C" fn probe_running_unwrap(
     tag: &[u8],
     body: &mut [u8],
 ) -> u8 {
-    if image.len() != IMAGE {
+    if image.len() != image::LENGTH {
         return LENGTH;
     }
     let session = image::session_of(&image[..]);
@@ -185,7 +183,7 @@ fn kept(answer: spongewrap::Answer, image: &mut [u8]) -> u8
 // The open that takes no settings. A refused one leaves its session of zeros in the image.
 #[no_mangle]
 pub extern "C" fn probe_default_open(key: &[u8], image: &mut [u8]) -> u8 {
-    if image.len() != IMAGE {
+    if image.len() != image::LENGTH {
         return LENGTH;
     }
     kept(Session::open(key), image)
@@ -250,7 +248,7 @@ pub extern "C" fn probe_open_entry(
     place: u64,
     body: &mut [u8],
 ) -> u64 {
-    if image.len() != IMAGE {
+    if image.len() != image::LENGTH {
         return told(LENGTH, 0);
     }
     let session = image::session_of(&image[..]);
@@ -262,7 +260,7 @@ pub extern "C" fn probe_open_entry(
 
 #[no_mangle]
 pub extern "C" fn probe_start(image: &mut [u8], label: &[u8], bundle: &mut [u8]) -> u64 {
-    if image.len() != IMAGE {
+    if image.len() != image::LENGTH {
         return told(LENGTH, 0);
     }
     let session = image::session_of(&image[..]);
@@ -276,7 +274,7 @@ pub extern "C" fn probe_add(
     body: &[u8],
     bundle: &mut [u8],
 ) -> u64 {
-    if image.len() != IMAGE {
+    if image.len() != image::LENGTH {
         return told(LENGTH, 0);
     }
     let session = image::session_of(&image[..]);
