@@ -1,6 +1,7 @@
 pub mod Strings
 pub mod Seal
 pub mod Open
+pub mod Masks
 pub mod RoundTrip
 pub mod Draw
 pub mod Object

@@ -48,7 +48,7 @@ module _ (d : Duplex) (p : List ℕ) (b : Bool) (o : List ℕ) where
   unfolding duplexes settled
   refusing e = rw e
 
-  pub doing : (l o′ : List ℕ) → refused (d .rate) (length p) (length o) ≡ false → l ≡ duplexing 64 f1600 (d .rate) (d .lanes) p (bit b)
+  pub doing : (n : ℕ) (l o′ : List ℕ) → refused (d .rate) (length p) (length o) ≡ false → n ≡ bit b → l ≡ duplexing 64 f1600 (d .rate) (d .lanes) p n
       → o′ ≡ take (length o) (bytes 64 l) → seen (record { done = true; duplex = record { lanes = l; rate = d .rate } }) o′ ≡ duplexes d p b o
   unfolding duplexes settled
-  doing l o′ e h q = rw (e, q, h)
+  doing n l o′ e f h q = rw (e, q, h, f)

@@ -11,7 +11,7 @@ use Rattle.sponge.specs.Sponge.{absorb}
 use Rattle.sponge.proofs.Pieces.{piece-mid, piece-last, before-is, absorb-more, laid}
 use Rattle.duplex.specs.Duplex.{framed, duplexing}
 use Rattle.duplex.specs.Strings.{blocks, front, cut, xored, absorbed, unmasked, opened}
-use Rattle.duplex.proofs.Strings.{before-low, piece-end, blocksOf-front, length-more, length-last}
+use Rattle.duplex.proofs.Strings.{piece-end, blocksOf-front, length-front, length-all}
 
 -- what a loop that opens c has written to out, which held d, where it stands at `at`, with the state st
 pub record Opened (w : ℕ) (f : List ℕ → List ℕ) (R : ℕ) (a c d : List ℕ) (at : ℕ) (st out : List ℕ) : Type 0 where
@@ -35,15 +35,11 @@ front-next R b P X k h l =
 module _ (w : ℕ) (f : List ℕ → List ℕ) (R : ℕ) (a c : List ℕ) where
   pub length-unmasked : (k : ℕ) → k * (R - 1) ≤ length c → length (unmasked w f R a c k) ≡ k * (R - 1)
   unfolding unmasked
-  length-unmasked zero h = sym (zero-mul (R - 1))
-  length-unmasked (suc k) h =
-      length-more (R - 1) c k (unmasked w f R a c k) _ h (length-unmasked k (omega (arith, suc-mul k (R - 1))))
+  length-unmasked = length-front (R - 1) c (unmasked w f R a c) _ refl (λ k. refl)
 
   pub length-opened : 1 < R → length (opened w f R a c) ≡ length c
   unfolding opened unmasked blocks
-  length-opened h =
-      let k : ℕ = before (R - 1) (length c) in
-      length-last (R - 1) c (unmasked w f R a c k) _ (omega arith) (length-unmasked k (omega (arith, before-low (R - 1) (length c))))
+  length-opened h = length-all (R - 1) c (unmasked w f R a c) _ refl (λ k. refl) (omega arith)
 
   pub opened-none : (d : List ℕ) → Opened w f R a c d 0 a d
   unfolding unmasked front blocksOf absorb

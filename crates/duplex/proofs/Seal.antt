@@ -11,7 +11,7 @@ use Rattle.sponge.specs.Sponge.{absorb}
 use Rattle.sponge.proofs.Pieces.{piece-mid, piece-last, before-is, absorb-more, laid}
 use Rattle.duplex.specs.Duplex.{duplexing}
 use Rattle.duplex.specs.Strings.{blocks, front, xored, absorbed, masked, sealed}
-use Rattle.duplex.proofs.Strings.{before-low, length-more, length-last, absorbed-last}
+use Rattle.duplex.proofs.Strings.{length-front, length-all, absorbed-last}
 
 -- what a loop that seals b has written to out, which held d, where it stands at `at`, with the state st
 pub record Sealed (w : ℕ) (f : List ℕ → List ℕ) (R : ℕ) (a b d : List ℕ) (at : ℕ) (st out : List ℕ) : Type 0 where
@@ -23,15 +23,11 @@ pub record Sealed (w : ℕ) (f : List ℕ → List ℕ) (R : ℕ) (a b d : List 
 module _ (w : ℕ) (f : List ℕ → List ℕ) (R : ℕ) (a b : List ℕ) where
   pub length-masked : (k : ℕ) → k * (R - 1) ≤ length b → length (masked w f R a b k) ≡ k * (R - 1)
   unfolding masked
-  length-masked zero h = sym (zero-mul (R - 1))
-  length-masked (suc k) h =
-      length-more (R - 1) b k (masked w f R a b k) _ h (length-masked k (omega (arith, suc-mul k (R - 1))))
+  length-masked = length-front (R - 1) b (masked w f R a b) _ refl (λ k. refl)
 
   pub length-sealed : 1 < R → length (sealed w f R a b) ≡ length b
   unfolding sealed masked blocks
-  length-sealed h =
-      let k : ℕ = before (R - 1) (length b) in
-      length-last (R - 1) b (masked w f R a b k) _ (omega arith) (length-masked k (omega (arith, before-low (R - 1) (length b))))
+  length-sealed h = length-all (R - 1) b (masked w f R a b) _ refl (λ k. refl) (omega arith)
 
   pub sealed-none : (d : List ℕ) → Sealed w f R a b d 0 a d
   unfolding masked front blocksOf absorb

@@ -2,7 +2,7 @@
 use mathlib.Core.Path.{_≡_, refl, sym, ap, _∙_}
 use mathlib.Core.List.{List, [], _∷_, _++_}
 use Prim.Native.Nat.{ℕ, zero, suc, _+_, _-_, _*_, _≤_, _<_}
-use native.Mathlib.Nat.{suc-mul, div-mul-le-self, lt-div-mul-add}
+use native.Mathlib.Nat.{suc-mul, zero-mul, div-mul-le-self, lt-div-mul-add}
 use native.Mathlib.Numerals.{add-one}
 use native.Mathlib.Omega.{arith}
 use lib.ListN.{length, take, drop, length-append, length-drop, length-take}
@@ -57,19 +57,30 @@ unfolding xored
 length-xored p z = length-table (length p) _
 
 -- a whole piece more, xored with anything
-pub length-more : (m : ℕ) (s : List ℕ) (k : ℕ) (x z : List ℕ) → suc k * m ≤ length s → length x ≡ k * m
+length-more : (m : ℕ) (s : List ℕ) (k : ℕ) (x z : List ℕ) → suc k * m ≤ length s → length x ≡ k * m
     → length (x ++ xored (piece m s k) z) ≡ suc k * m
 unfolding piece
 length-more m s k x z h l =
     omega (arith, suc-mul k m, length-append x (xored (piece m s k) z), length-xored (piece m s k) z, length-take m (drop (k * m) s), length-drop (k * m) s)
 
 -- the last piece
-pub length-last : (m : ℕ) (s x z : List ℕ) → 0 < m → length x ≡ before m (length s) * m
+length-last : (m : ℕ) (s x z : List ℕ) → 0 < m → length x ≡ before m (length s) * m
     → length (x ++ xored (piece m s (before m (length s))) z) ≡ length s
 unfolding piece
 length-last m s x z h l =
     let k : ℕ = before m (length s) in
     omega (arith, before-low m (length s), before-high m (length s) h, length-append x (xored (piece m s k) z), length-xored (piece m s k) z, length-take m (drop (k * m) s), length-drop (k * m) s)
+
+-- what grows by a piece of s at a time, each xored with anything: after k whole pieces, and after the last
+module _ (m : ℕ) (s : List ℕ) (M z : ℕ → List ℕ) (none : M 0 ≡ []) (more : (k : ℕ) → M (suc k) ≡ M k ++ xored (piece m s k) (z k)) where
+  pub length-front : (k : ℕ) → k * m ≤ length s → length (M k) ≡ k * m
+  length-front zero h = ap length none ∙ sym (zero-mul m)
+  length-front (suc k) h = ap length (more k) ∙ length-more m s k (M k) (z k) h (length-front k (omega (arith, suc-mul k m)))
+
+  pub length-all : 0 < m → length (M (suc (before m (length s)))) ≡ length s
+  length-all h =
+      let k : ℕ = before m (length s) in
+      ap length (more k) ∙ length-last m s (M k) (z k) h (length-front k (omega (arith, before-low m (length s))))
 
 -- ---- what is absorbed
 

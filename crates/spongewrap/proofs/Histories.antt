@@ -15,7 +15,8 @@ use Rattle.duplex.specs.Strings.{blocks, front, cut, absorbed}
 use Rattle.duplex.proofs.Strings.{length-cut}
 use Rattle.duplex.proofs.Seal.{length-sealed}
 use Rattle.duplex.proofs.Open.{length-opened}
-use Rattle.duplex.proofs.Draw.{after-blocks}
+use Rattle.duplex.proofs.Masks.{sealed-piece, opened-piece}
+use Rattle.duplex.proofs.Draw.{after-blocks, drawn-piece}
 use Rattle.spongewrap.specs.SpongeWrap.{keyed, headed, bodied, ciphertext, tagged, left, plaintext}
 use Rattle.spongewrap.specs.Refusals.{openRefusal}
 use Rattle.spongewrap.specs.Sessions.{opened as open-settled, opens, cost, advanced, next, sealing, tagOf, recovered, Seen}
@@ -23,7 +24,6 @@ use Rattle.spongewrap.specs.History.{Call, answered, Pair, pairOf, ifAcc
 use Rattle.spongewrap.specs.History.Call.{wrapping, unwrapping}
 use Rattle.spongewrap.specs.declared.Session.{Session}
 use Rattle.spongewrap.proofs.Passed.{open-fits, wrap-fits, unwrap-fits}
-use Rattle.spongewrap.proofs.Outputs.{sealed-piece, opened-piece, drawn-piece}
 use Rattle.spongewrap.proofs.Theorems.{open-number, wrap-number, wrap-kept, unwrap-kept, wrapped-is, unwrapped-is, unwrap-first, accepted-ready, unwrap-accepts-exactly, text-is, mark-is}
 use Rattle.spongewrap.proofs.Settle.{length-tagOf}
 

@@ -4,6 +4,5 @@ pub mod Same
 pub mod Settle
 pub mod Theorems
 pub mod Outcomes
-pub mod Outputs
 pub mod Histories
 pub mod ComesBack

@@ -41,7 +41,7 @@ pairOf s (wrapping h b o) =
     }
 pairOf s (unwrapping h c t o) = record { header = h; body = take (length c) (unwraps s h c t o .out); cipher = c; tag = t }
 
--- the part of it that both ends know
+-- what the two ends of a pair have in common
 abbrev pub content : Pair → List ℕ × List ℕ
 content p = (p .header, p .body)
 
@@ -93,6 +93,7 @@ abbrev pub output : ℕ → (List ℕ → List ℕ) → List (List ℕ) → List
 output w f B = bytes w (sponge w f B)
 
 pub record Output (w : ℕ) (f : List ℕ → List ℕ) (R t : ℕ) (B : List (List ℕ)) (p : Pair) : Type 0 where
+  -- no byte of either is without its piece
   pub cipher-length : length (p .cipher) ≡ length (p .body)
   pub tag-length : length (p .tag) ≡ t
   -- each keystream piece, which turns a piece of the body into one of the ciphertext, is the output at its point
@@ -105,6 +106,7 @@ pub record Output (w : ℕ) (f : List ℕ → List ℕ) (R t : ℕ) (B : List (L
 -- ---- demand 3, of a session that stands where a key was absorbed and the pairs ps were accepted
 
 pub record Told (R t : ℕ) (key : List ℕ) (ps : List Pair) (s : Session) : Type 0 where
+  -- the settings stay as they were opened
   pub rate : s .rate ≡ R
   pub tag : s .tag ≡ t
   pub pairs : s .pairs ≡ length ps

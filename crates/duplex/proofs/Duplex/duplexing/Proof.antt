@@ -1,11 +1,9 @@
 -- The tests are the definition's own, and what they leave is what a duplexing asks for.
 use borrow.Author.Needs.{needs}
-use mathlib.Core.Path.{_≡_, sym, ap, _∙_}
+use mathlib.Core.Path.{_≡_, sym, _∙_}
 use mathlib.Core.Bool.{false}
 use native.Mathlib.Nat.{le-trans}
 use lib.ListN.{length}
-use Rattle.keccak.specs.Rounds.{f1600}
-use Rattle.duplex.specs.Duplex.{duplexing}
 use Rattle.duplex.specs.Object.{refused}
 use Rattle.duplex.proofs.Object.{accepted, bit-small, refusing, doing}
 use Rattle.duplex.proofs.Duplex.duplexing.Statement.{statement}
@@ -31,7 +29,7 @@ put-bytes-requires c κs =
 returns-2 : tie.Need-returns-2
 returns-2 c =
     let q = c .before .before in
-    doing _ _ _ _ _ _ (known (q .before .before .before .before .before)) (q .before .before .duplexed .ensures ∙ ap (duplexing 64 f1600 _ _ _) (q .before .before .before .frame-bit .ensures)) (q .put-bytes .ensures)
+    doing _ _ _ _ _ _ _ (known (q .before .before .before .before .before)) (q .before .before .before .frame-bit .ensures) (q .before .before .duplexed .ensures) (q .put-bytes .ensures)
 
 pub duplexing-spec : {M : Type 1} → statement M
 duplexing-spec =

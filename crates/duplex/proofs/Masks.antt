@@ -1,29 +1,55 @@
--- The pieces of a ciphertext, of a plaintext and of a tag: each comes from the output of a plain sponge at its point.
-use Prim.Native.Nat.{ℕ, zero, suc, _+_, _-_, _*_, _/_, _≤_, _<_}
-use native.Mathlib.Nat.{suc-mul, mul-le-mul-right, le-of-suc-le-suc, eq-or-lt-of-le, le-refl}
-use native.Mathlib.Omega.{arith}
-use mathlib.Core.Path.{_≡_, refl, sym, ap, _∙_}
-use mathlib.Core.List.{List, [], _∷_, _++_, append-assoc}
+-- Masks: one that is laid on twice is gone; and the pieces of a ciphertext and of a plaintext, each masked by the output at its point.
+use mathlib.Core.Path.{_≡_, refl, sym, ap, ap₂, _∙_}
+use mathlib.Core.List.{List, [], _∷_, _++_}
 use mathlib.Core.Logic.{⊎-elim}
-use lib.ListN.{length, take, drop, length-append, length-take, take-append-drop, replicate}
-use lib.Seq.{take-append-seam, take-nil}
+use Prim.Native.Nat.{ℕ, zero, suc, _+_, _-_, _*_, _/_, _%_, _≤_, _<_}
+use native.Mathlib.Nat.{suc-mul, mul-le-mul-right, div-add-mod', le-of-suc-le-suc, eq-or-lt-of-le, le-refl}
+use native.Mathlib.Omega.{arith}
+use lib.ListN.{length, getD, take, drop, length-append, length-take}
+use lib.Seq.{take-length}
+use lib.Arith.{bin-ind}
+use lib.Bits.{bitXor, differ, xor-step, xor-shr, xor-mod, xor-self}
 use Rattle.sponge.specs.Bytes.{bytes}
 use Rattle.sponge.specs.Pieces.{piece, blocksOf, before}
-use Rattle.sponge.specs.Sponge.{absorb, iterate, stream, squeeze}
-use Rattle.sponge.proofs.Squeeze.{length-stream}
-use Rattle.duplex.specs.Duplex.{framed, blank, drawn}
+use Rattle.sponge.specs.Sponge.{absorb}
+use Rattle.sponge.proofs.Table.{table-ext, table-at, table-getD}
+use Rattle.duplex.specs.Duplex.{framed}
 use Rattle.duplex.specs.Strings.{blocks, front, xored, masked, sealed, unmasked, opened}
 use Rattle.duplex.proofs.Strings.{before-low, piece-front, piece-end, blocksOf-front, length-xored}
 use Rattle.duplex.proofs.Seal.{length-masked}
 use Rattle.duplex.proofs.Open.{length-unmasked}
-use Rattle.duplex.proofs.RoundTrip.{xored-twice}
-use Rattle.duplex.proofs.Draw.{blanks-absorb}
+
+-- ---- xor twice
+
+bit-twice : (x y : ℕ) → x < 2 → y < 2 → differ (bitXor x y) y ≡ x
+bit-twice zero zero h k = refl
+bit-twice zero (suc zero) h k = refl
+bit-twice zero (suc (suc y)) h k = absurd (omega arith)
+bit-twice (suc zero) zero h k = refl
+bit-twice (suc zero) (suc zero) h k = refl
+bit-twice (suc zero) (suc (suc y)) h k = absurd (omega arith)
+bit-twice (suc (suc x)) y h k = absurd (omega arith)
+
+pub xor-twice : (a b : ℕ) → bitXor (bitXor a b) b ≡ a
+xor-twice =
+    bin-ind (λ (n : ℕ). (b : ℕ) → bitXor (bitXor n b) b ≡ n) xor-self
+    (λ n ih b. xor-step (bitXor n b) b
+    ∙ ap₂ (λ (x y : ℕ). bitXor x (b / 2) * 2 + differ y (b % 2)) (xor-shr n b 1) (xor-mod n b 1)
+    ∙ ap₂ (λ (x y : ℕ). x * 2 + y) (ih (b / 2)) (bit-twice (n % 2) (b % 2) (omega arith) (omega arith))
+    ∙ div-add-mod' n 2)
+
+pub xored-twice : (p z : List ℕ) → xored (xored p z) z ≡ p
+unfolding xored
+xored-twice p z =
+    rw (length-xored p z)
+    (table-ext (length p) _ (λ i. getD p i 0) (λ i h. ap (λ (x : ℕ). bitXor x (getD z i 0)) (table-at (length p) _ i h) ∙ xor-twice (getD p i 0) (getD z i 0))
+    ∙ table-getD p (length p) (le-refl (length p)) ∙ take-length p)
 
 -- ---- a list M n that grows by X n, where all but the last X have m elements
 
 module _ (m : ℕ) (M X : ℕ → List ℕ) (grows : (k : ℕ) → M (suc k) ≡ M k ++ X k) where
   -- its pieces
-  piece-is : (n : ℕ) → ((k : ℕ) → k ≤ n → length (M k) ≡ k * m) → length (X n) ≤ m → (j : ℕ) → j ≤ n → piece m (M (suc n)) j ≡ X j
+  pub piece-is : (n : ℕ) → ((k : ℕ) → k ≤ n → length (M k) ≡ k * m) → length (X n) ≤ m → (j : ℕ) → j ≤ n → piece m (M (suc n)) j ≡ X j
   piece-is zero len l j h =
       let z : j ≡ 0 = omega arith in
       rw (z, grows) (piece-end m (M 0) (X 0) 0 (len 0 (le-refl 0)) l)
@@ -71,42 +97,3 @@ module _ (w : ℕ) (f : List ℕ → List ℕ) (R : ℕ) (a : List ℕ) where
       let len : (i : ℕ) → i ≤ n → length (M i) ≡ i * (R - 1) = λ i l. length-unmasked w f R a c i (omega (arith, mul-le-mul-right (R - 1) l, before-low (R - 1) (length c))) in
       rw (blocks-are (R - 1) M X (λ i. refl) (framed R 1) n len k (le-of-suc-le-suc h), piece-is (R - 1) M X (λ i. refl) n len (length-masking c (z n) n) k (le-of-suc-le-suc h))
       (sym (xored-twice (piece (R - 1) c k) (z k)))
-
--- ---- a tag
-
-take-swap : (i m : ℕ) (l : List ℕ) → take i (take m l) ≡ take m (take i l)
-take-swap zero zero l = refl
-take-swap zero (suc m) l = refl
-take-swap (suc i) zero l = refl
-take-swap (suc i) (suc m) [] = refl
-take-swap (suc i) (suc m) (x ∷ l) = ap (λ (t : List ℕ). x ∷ t) (take-swap i m l)
-
-drop-take : (k n : ℕ) (l : List ℕ) → drop k (take n l) ≡ take (n - k) (drop k l)
-drop-take zero n l = let e : n - 0 ≡ n = omega arith in rw e
-drop-take (suc k) zero l = let e : 0 - suc k ≡ 0 = omega arith in rw e
-drop-take (suc k) (suc n) [] = sym (take-nil (suc n - suc k))
-drop-take (suc k) (suc n) (x ∷ l) = let e : suc n - suc k ≡ n - k = omega arith in rw e (drop-take k n l)
-
--- what l begins with
-begins : (i m : ℕ) (l : List ℕ) → take i (take m l) ≡ take (length (take i (take m l))) l
-begins i m l =
-    let e : take i (take m l) ++ (drop i (take m l) ++ drop m l) ≡ l =
-    sym (append-assoc (take i (take m l)) (drop i (take m l)) (drop m l)) ∙ rw (take-append-drop i (take m l), take-append-drop m l) in
-    sym (ap (take (length (take i (take m l)))) (sym e) ∙ take-append-seam (take i (take m l)) (drop i (take m l) ++ drop m l))
-
--- a piece of n bytes of output
-pub drawn-piece : (w : ℕ) (f : List ℕ → List ℕ) (R : ℕ) (a : List ℕ) (n k : ℕ) → R - 1 ≤ 25 * (w / 8) → k < blocks R n
-    → piece (R - 1) (drawn w f R a n) k ≡ take (length (piece (R - 1) (drawn w f R a n) k)) (bytes w (absorb w f a (replicate k (framed R 0 []))))
-unfolding drawn squeeze stream blocks piece
-drawn-piece w f R a n k l h =
-    let m : ℕ = R - 1 in
-    let i : ℕ = n - k * m in
-    let q : ℕ = before m n in
-    let S : ℕ → List ℕ = stream w (blank w f R) m a in
-    let Z : List ℕ = bytes w (iterate (blank w f R) a k) in
-    let e : piece m (S (suc q)) k ≡ take m Z =
-    piece-is m S (λ j. take m (bytes w (iterate (blank w f R) a j))) (λ j. refl) q (λ j _. length-stream w (blank w f R) m a j l)
-    (omega (arith, length-take m (bytes w (iterate (blank w f R) a q)))) k (le-of-suc-le-suc h) in
-    let p : piece m (take n (S (suc q))) k ≡ take i (take m Z) =
-    rw (drop-take (k * m) n (S (suc q)), take-swap m i (drop (k * m) (S (suc q)))) (ap (take i) e) in
-    rw (← blanks-absorb w f R a k, p) (begins i m Z)
