@@ -21,13 +21,7 @@ pub fn opened(
     key: &[u8],
     image: &[u8],
 ) -> Seen {
-    let library = seen(image, &[], |image, _| {
-        reading([key], |[key]| open(key, image))
-    });
-    let reference = seen(image, &[], |image, _| {
-        number(desk::open(rate, tag, key, image))
-    });
-    agreed(library, reference)
+    opened_as(open, key, image, |image| desk::open(rate, tag, key, image))
 }
 
 /// Opens a session by both without settings; a refused open leaves the session of zeros.
@@ -36,17 +30,27 @@ pub fn opened_by_default(
     key: &[u8],
     image: &[u8],
 ) -> Seen {
-    let library = seen(image, &[], |image, _| {
-        reading([key], |[key]| open(key, image))
-    });
-    let reference = seen(image, &[], |image, _| {
-        let Ok(image) = <&mut [u8; IMAGE]>::try_from(image) else {
-            return ROOM;
-        };
+    opened_as(open, key, image, |image| {
+        let image = <&mut [u8; IMAGE]>::try_from(image).map_err(|_| ROOM)?;
         *image = [0; IMAGE];
-        number(desk::open(136, 16, key, image))
+        desk::open(136, 16, key, image)
+    })
+}
+
+/// Opens a session by the library's call, and into a like image by the reference's.
+fn opened_as(
+    library: impl FnOnce(&[u8], &mut [u8]) -> u8,
+    key: &[u8],
+    image: &[u8],
+    reference: impl FnOnce(&mut [u8]) -> Result<(), Refusal>,
+) -> Seen {
+    let library = seen(image, &[], |image, _| {
+        reading([key], |[key]| library(key, image))
     });
-    agreed(library, reference)
+    agreed(
+        library,
+        seen(image, &[], |image, _| number(reference(image))),
+    )
 }
 
 /// A wrap by image, header and body into an output.
