@@ -6,6 +6,7 @@ use mathlib.Core.List.{List, []}
 use mathlib.Core.Bool.{false}
 use lib.ListN.{length, take, drop, length-drop}
 use lib.Seq.{length-take-le}
+use Rattle.spongewrap.specs.Desk.{desk}
 use Rattle.spongewrap.specs.Refusals.{pick, first, badSize, short}
 use Rattle.spongewrap.specs.Sessions.{foreign, unwraps, Seen as Unwrapped, seen as unwrap-seen}
 use Rattle.spongewrap.specs.declared.Session.{Session}
@@ -34,7 +35,7 @@ module _ (T : ℕ) (s : Session) (b : List ℕ) (place : ℕ) (o : List ℕ) (z 
 
   -- the last rows of the table
   abbrev pub last-rows : ℕ
-  last-rows = pick (short (length o) (bodyLength b place)) 6 (pick (foreign s (headerAt b place) (cipherAt b place) (tagAt T b place)) 8 0)
+  last-rows = pick (short (length o) (bodyLength b place)) 6 (pick (foreign desk s (headerAt b place) (cipherAt b place) (tagAt T b place)) 8 0)
 
   pub table-is : openTable T s b place (length o) ≡ by last-rows (refused last-rows place) (accepted (nextAt T b place) [])
   unfolding openTable by
@@ -43,19 +44,19 @@ module _ (T : ℕ) (s : Session) (b : List ℕ) (place : ℕ) (o : List ℕ) (z 
   long : (k i : ℕ) → i + k ≤ length b → length (take k (drop i b)) ≡ k
   long k i l = length-take-le k (drop i b) (omega (arith, length-drop i b))
 
-  number-is : unwraps s (headerAt b place) (cipherAt b place) (tagAt T b place) o .answer .number ≡ last-rows
+  number-is : unwraps desk s (headerAt b place) (cipherAt b place) (tagAt T b place) o .answer .number ≡ last-rows
   number-is =
       let v = w in
       let lh : length (headerAt b place) ≡ headerLength b place = long (headerLength b place) (place + 6) (omega arith) in
       let lc : length (cipherAt b place) ≡ bodyLength b place = long (bodyLength b place) (place + 6 + headerLength b place) (omega arith) in
-      unwrap-number s (headerAt b place) (cipherAt b place) (tagAt T b place) o
+      unwrap-number desk s (headerAt b place) (cipherAt b place) (tagAt T b place) o
       ∙ unwrap-rows T s _ _ (length o) (fit T s z) good (omega arith) (omega arith) _
       ∙ rw lc refl
 
   module _ (a : Unwrap) (o′ : List ℕ) (i j k : ℕ)
-      (p : unwrap-seen a o′ ≡ unwraps s (take i (drop (place + 6) b)) (take j (drop (place + 6 + h) b)) (take k (drop (place + 6 + h + m) b)) o)
+      (p : unwrap-seen a o′ ≡ unwraps desk s (take i (drop (place + 6) b)) (take j (drop (place + 6 + h) b)) (take k (drop (place + 6 + h + m) b)) o)
       (ei : i ≡ h) (ej : j ≡ m) (ek : k ≡ T) where
-    call : unwrap-seen a o′ ≡ unwraps s (headerAt b place) (cipherAt b place) (tagAt T b place) o
+    call : unwrap-seen a o′ ≡ unwraps desk s (headerAt b place) (cipherAt b place) (tagAt T b place) o
     call = p ∙ rw (ei, ej, ek, w .header, w .body) refl
 
     told : a .number ≡ last-rows
@@ -64,7 +65,7 @@ module _ (T : ℕ) (s : Session) (b : List ℕ) (place : ℕ) (o : List ℕ) (z 
     pub open-stops : (a .number ≡ 0 → ⊥) → seen (record { number = a .number; place = place; session = a .session }) o′ ≡ opens T s b place o
     unfolding opens
     open-stops d =
-        let k = unwrap-kept s (headerAt b place) (cipherAt b place) (tagAt T b place) o (λ x. d (told ∙ sym number-is ∙ x)) in
+        let k = unwrap-kept desk s (headerAt b place) (cipherAt b place) (tagAt T b place) o (λ x. d (told ∙ sym number-is ∙ x)) in
         let es : a .session ≡ s = ap (λ (v : Unwrapped). v .answer .session) call ∙ k .session in
         let eo : o′ ≡ o = ap (λ (v : Unwrapped). v .out) call ∙ k .out in
         rw (es, eo) (settle-stops _ s _ o _ (a .number) place (stops (a .number) place _ told d ∙ sym table-is) d)
@@ -72,7 +73,7 @@ module _ (T : ℕ) (s : Session) (b : List ℕ) (place : ℕ) (o : List ℕ) (z 
     pub open-done : a .number ≡ 0 → seen (record { number = 0; place = n; session = a .session }) o′ ≡ opens T s b place o
     unfolding opens bodyAt
     open-done d =
-        let g = call ∙ unwrapped-is s (headerAt b place) (cipherAt b place) (tagAt T b place) o (number-is ∙ sym told ∙ d) in
+        let g = call ∙ unwrapped-is desk s (headerAt b place) (cipherAt b place) (tagAt T b place) o (number-is ∙ sym told ∙ d) in
         let es = ap (λ (v : Unwrapped). v .answer .session) g in
         let eo = ap (λ (v : Unwrapped). v .out) g in
         rw (es, eo, w .next) (settle-goes _ s _ o _ (nextAt T b place) (goes place told d refl ∙ sym table-is))

@@ -11,6 +11,7 @@ use borrow.Author.Tests.{le-ltb, not-false}
 use Rattle.fields.specs.Numbers.{bytesOf}
 use Rattle.fields.proofs.Stores.{getD-sets-before, getD-sets-after}
 use Rattle.fields.proofs.Numbers.{length-bytesOf}
+use Rattle.spongewrap.specs.Desk.{desk}
 use Rattle.spongewrap.specs.Refusals.{first, badSize, short}
 use Rattle.spongewrap.specs.Sessions.{next, tagOf, foreign}
 use Rattle.spongewrap.specs.declared.Session.{Session}
@@ -106,7 +107,7 @@ past-entry Past p q e = absurd (omega arith)
 
 -- An entry that opens has the tag that is recomputed over its very header and body, in the session that all earlier pairs left.
 pub opened-tag : (T : ℕ) (s : Session) (b : List ℕ) (place : ℕ) (o : List ℕ) → opens T s b place o .answer .number ≡ 0
-    → tagAt T b place ≡ tagOf s (headerAt b place) (bodyAt s b place)
+    → tagAt T b place ≡ tagOf desk s (headerAt b place) (bodyAt s b place)
 unfolding opens openTable bodyAt foreign
 opened-tag T s b place o e =
     let p = through (first (own T s)) place _ e in
@@ -118,7 +119,7 @@ opened-tag T s b place o e =
 -- So a header is covered by its tag: where two bundles open at one place under the same tag, the tags that are recomputed over
 -- either header are equal, however the headers differ.
 pub header-covered : (T : ℕ) (s : Session) (place : ℕ) (o b b′ : List ℕ) → opens T s b place o .answer .number ≡ 0 → opens T s b′ place o .answer .number ≡ 0
-    → tagAt T b place ≡ tagAt T b′ place → tagOf s (headerAt b place) (bodyAt s b place) ≡ tagOf s (headerAt b′ place) (bodyAt s b′ place)
+    → tagAt T b place ≡ tagAt T b′ place → tagOf desk s (headerAt b place) (bodyAt s b place) ≡ tagOf desk s (headerAt b′ place) (bodyAt s b′ place)
 header-covered T s place o b b′ e f t = sym (opened-tag T s b place o e) ∙ t ∙ opened-tag T s b′ place o f
 
 -- ---- what an add leaves
@@ -176,7 +177,7 @@ module _ (T : ℕ) (good : badSize T ≡ false) (s : Session) (label d : List �
   entry-zero : false ≡ unlabelled (entryAt T (front ++ entriesOf s (labelled label ∷ ps)) 5)
   unfolding entriesOf Sealed unlabelled
   entry-zero =
-      rw (← length-front, entry-is T good s label [] (holds .sealed .0) front (entriesOf (next s label []) ps))
+      rw (← length-front, entry-is T good s label [] (holds .sealed .0) front (entriesOf (next desk s label []) ps))
       (sym (start-accepted T good s label d (number-first T good s (starts T s label d) ps all) .label))
 
   walked : accepted 0 (suc (length ps) ∷ []) ≡ entriesFrom T (front ++ entriesOf s (labelled label ∷ ps)) 5 0

@@ -3,7 +3,8 @@ use Prim.Native.Nat.{ℕ, zero, suc}
 use mathlib.Core.List.{List, [], _∷_}
 use mathlib.Core.Bool.{Bool, not}
 use lib.Dec.{eqb}
-use Rattle.spongewrap.specs.Refusals.{first, standing}
+use Rattle.spongewrap.specs.Desk.{desk}
+use Rattle.spongewrap.specs.Refusals.{first, full, ownRows}
 use Rattle.spongewrap.specs.declared.Session.{Session}
 use Rattle.bundle.specs.declared.Entry.{Entry}
 use Rattle.bundle.specs.declared.Entry.the-variants.{Whole, Short, Large, Past}
@@ -41,7 +42,7 @@ placed place rows = refused (first rows) place
 
 -- a session's own rows, with the bundle's rate and tag length: 1, 3, 7
 abbrev pub own : ℕ → Session → List (Bool × ℕ)
-own T s = standing (not (eqb (s .rate) bundleRate)) (not (eqb (s .tag) T)) s
+own T s = ownRows (not (eqb (s .rate) bundleRate)) (not (eqb (s .tag) T)) (full (desk .ceiling) (s .pairs) (s .calls))
 
 -- ---- the answers that are enums
 

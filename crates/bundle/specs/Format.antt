@@ -7,6 +7,7 @@ use mathlib.Core.Bool.{Bool, true, false, _||_}
 use lib.ListN.{length, take, drop}
 use lib.Dec.{ltb}
 use Rattle.fields.specs.Numbers.{numberAt, bytesOf}
+use Rattle.spongewrap.specs.Desk.{desk}
 use Rattle.spongewrap.specs.Refusals.{longBody}
 use Rattle.spongewrap.specs.Sessions.{sealing, tagOf}
 use Rattle.spongewrap.specs.declared.Session.{Session}
@@ -32,7 +33,7 @@ most = 16777216
 
 -- its bytes, and how many they are for a header and a body of these lengths
 unfoldable pub entryOf : Session → List ℕ → List ℕ → List ℕ
-entryOf s h b = bytesOf 2 (length h) ++ (bytesOf 4 (length b) ++ (h ++ (sealing s h b ++ tagOf s h b)))
+entryOf s h b = bytesOf 2 (length h) ++ (bytesOf 4 (length b) ++ (h ++ (sealing desk s h b ++ tagOf desk s h b)))
 
 abbrev pub size : ℕ → ℕ → ℕ → ℕ
 size T header body = 6 + header + body + T

@@ -2,6 +2,7 @@
 use Prim.Native.Nat.{ℕ}
 use mathlib.Core.List.{List, [], _∷_, _++_}
 use lib.ListN.{length, drop}
+use Rattle.spongewrap.specs.Desk.{desk}
 use Rattle.spongewrap.specs.Refusals.{short}
 use Rattle.spongewrap.specs.Sessions.{next, recovered, foreign}
 use Rattle.spongewrap.specs.declared.Session.{Session}
@@ -13,14 +14,14 @@ unfoldable pub openTable : ℕ → Session → List ℕ → ℕ → ℕ → Told
 openTable T s b place out =
     placed place (own T s)
     orElse entryTold (entryAt T b place) place
-    orElse placed place ((short out (bodyLength b place), 6) ∷ (foreign s (headerAt b place) (cipherAt b place) (tagAt T b place), 8) ∷ [])
+    orElse placed place ((short out (bodyLength b place), 6) ∷ (foreign desk s (headerAt b place) (cipherAt b place) (tagAt T b place), 8) ∷ [])
     orElse accepted (nextAt T b place) []
 
 -- the body of the entry
 unfoldable pub bodyAt : Session → List ℕ → ℕ → List ℕ
-bodyAt s b place = recovered s (headerAt b place) (cipherAt b place)
+bodyAt s b place = recovered desk s (headerAt b place) (cipherAt b place)
 
 unfoldable pub opens : ℕ → Session → List ℕ → ℕ → List ℕ → Seen
 opens T s b place o =
     settled (openTable T s b place (length o)) s o
-    (next s (headerAt b place) (bodyAt s b place)) (bodyAt s b place ++ drop (length (bodyAt s b place)) o)
+    (next desk s (headerAt b place) (bodyAt s b place)) (bodyAt s b place ++ drop (length (bodyAt s b place)) o)

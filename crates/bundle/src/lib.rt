@@ -6,6 +6,7 @@ ghost use lib.ListN.{length};
 ghost use lib.Seq.{sets};
 ghost use Rattle.spongewrap.specs.Refusals.{first};
 ghost use Rattle.spongewrap.specs.Sessions.{cost, next};
+ghost use Rattle.spongewrap.specs.Desk.{desk};
 ghost use Rattle.bundle.specs.Format.{bundleRate, tagLength, entryOf, size, entryAt, badLabel};
 ghost use Rattle.bundle.specs.Answers.{refused, own, entryTold, surveyTold, seen};
 ghost use Rattle.bundle.specs.Survey.{unlabelled, entriesFrom, surveys};
@@ -293,7 +294,7 @@ pub fn open_entry(s: Session, bundle: &[u8], place: usize, out: &mut [u8]) -> An
 // the tag, is lent on.
 fn write_entry(s: Session, header: &[u8], body: &[u8], bundle: &mut [u8], place: usize) -> Session
     requires { ⌜ Ready tagLength s (length (now header)) (length (now body)) × (place + size tagLength (length (now header)) (length (now body)) ≤ length (now bundle)) ⌝ }
-    ensures { λ r. ⌜ (r ≡ next s (now (header .entry)) (now (body .entry))) × (now (bundle .exit) ≡ sets (now (bundle .entry)) place (entryOf s (now (header .entry)) (now (body .entry)))) ⌝ }
+    ensures { λ r. ⌜ (r ≡ next desk s (now (header .entry)) (now (body .entry))) × (now (bundle .exit) ≡ sets (now (bundle .entry)) place (entryOf s (now (header .entry)) (now (body .entry)))) ⌝ }
 {
     fields::put_u16(bundle, place, header.len() as u16);
     fields::put_u32(bundle, place + 2, body.len() as u32);

@@ -22,13 +22,13 @@ one-fails : (x y : Bool) → (not x && not y) ≡ false → (x ≡ true) ⊎ (y 
 one-fails true y e = inl refl
 one-fails false y e = inr (not-false y e)
 
-pub rate-136 : Rate 136
+pub rate-136 : Rate 64 136
 rate-136 = record { room = lit< tt; most = lit≤ tt; lanes = refl }
 
-pub rate-168 : Rate 168
+pub rate-168 : Rate 64 168
 rate-168 = record { room = lit< tt; most = lit≤ tt; lanes = refl }
 
-pub accepted : (R piece out : ℕ) → refused R piece out ≡ false → Rate R × (piece < R) × (out ≤ R)
+pub accepted : (R piece out : ℕ) → refused R piece out ≡ false → Rate 64 R × (piece < R) × (out ≤ R)
 unfolding refused
 accepted R piece out e =
     let h = none-holds (not (eqb R 136) && not (eqb R 168)) (leb R piece) (ltb R out) e in (

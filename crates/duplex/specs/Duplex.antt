@@ -1,6 +1,6 @@
 -- The duplex construction over any permutation f of 25 lanes of w bits, at a rate of R bytes
 -- (document 01, "Blocks" and "SpongeWrap"; the duplex construction of "Duplexing the sponge").
-use Prim.Native.Nat.{ℕ, _+_, _-_, _%_, _<_, _≤_}
+use Prim.Native.Nat.{ℕ, _+_, _-_, _*_, _/_, _%_, _<_, _≤_}
 use mathlib.Core.Path.{_≡_}
 use mathlib.Core.List.{List, []}
 use Rattle.sponge.specs.Padding.{padded}
@@ -26,8 +26,8 @@ drawn w f R a n = squeeze w (blank w f R) (R - 1) a n
 unfoldable pub after : ℕ → (List ℕ → List ℕ) → ℕ → List ℕ → ℕ → List ℕ
 after w f R a n = iterate (blank w f R) a (before (R - 1) n)
 
--- what the code asks of a rate: room for a byte and its frame, in whole lanes of 64 bits
-pub record Rate (R : ℕ) : Type 0 where
+-- what the code asks of a rate: room for a byte and its frame, in whole lanes of w bits
+pub record Rate (w R : ℕ) : Type 0 where
   pub room : 1 < R
-  pub most : R ≤ 200
-  pub lanes : R % 8 ≡ 0
+  pub most : R ≤ 25 * (w / 8)
+  pub lanes : R % (w / 8) ≡ 0

@@ -76,7 +76,7 @@ fn frame_bit(frame: bool) -> u8
 
 // One duplexing of a piece.
 fn duplexed(a: [u64; 25], piece: &[u8], frame: u8, rate: usize) -> [u64; 25]
-    requires { ⌜ Rate rate × (length (now piece) < rate) × (frame < 2) ⌝ }
+    requires { ⌜ Rate 64 rate × (length (now piece) < rate) × (frame < 2) ⌝ }
     ensures { λ r. ⌜ r ≡ duplexing 64 f1600 rate a (now (piece .entry)) frame ⌝ }
 {
     sponge::absorbed_piece(a, piece, 2 + frame, rate)
@@ -84,7 +84,7 @@ fn duplexed(a: [u64; 25], piece: &[u8], frame: u8, rate: usize) -> [u64; 25]
 
 // A string absorbed piece by piece: the frame bit is `mid` but at the last piece, where it is `last`.
 pub fn absorbed(a: [u64; 25], s: &[u8], mid: u8, last: u8, rate: usize) -> [u64; 25]
-    requires { ⌜ Rate rate × (mid < 2) × (last < 2) ⌝ }
+    requires { ⌜ Rate 64 rate × (mid < 2) × (last < 2) ⌝ }
     ensures { λ r. ⌜ r ≡ absorbed 64 f1600 rate a mid last (now (s .entry)) ⌝ }
 {
     let most = rate - 1;
@@ -114,7 +114,7 @@ fn mask_into(a: [u64; 25], p: &[u8], out: &mut [u8])
 
 // One piece of a body sealed: its ciphertext goes to `out`.
 fn seal_piece(a: [u64; 25], p: &[u8], frame: u8, rate: usize, out: &mut [u8]) -> [u64; 25]
-    requires { ⌜ Rate rate × (length (now p) < rate) × (frame < 2) × (length (now out) ≡ length (now p)) ⌝ }
+    requires { ⌜ Rate 64 rate × (length (now p) < rate) × (frame < 2) × (length (now out) ≡ length (now p)) ⌝ }
     ensures { λ r. ⌜ (r ≡ duplexing 64 f1600 rate a (now (p .entry)) frame) × (now (out .exit) ≡ xored (now (p .entry)) (bytes 64 a)) ⌝ }
 {
     mask_into(a, p, out);
@@ -123,7 +123,7 @@ fn seal_piece(a: [u64; 25], p: &[u8], frame: u8, rate: usize, out: &mut [u8]) ->
 
 // A body sealed into the first bytes of `out`, and the state after it.
 pub fn sealed_into(a: [u64; 25], body: &[u8], rate: usize, out: &mut [u8]) -> [u64; 25]
-    requires { ⌜ Rate rate × (length (now body) ≤ length (now out)) ⌝ }
+    requires { ⌜ Rate 64 rate × (length (now body) ≤ length (now out)) ⌝ }
     ensures { λ r. ⌜ (r ≡ absorbed 64 f1600 rate a 1 0 (now (body .entry))) × (now (out .exit) ≡ sealed 64 f1600 rate a (now (body .entry)) ++ drop (length (now (body .entry))) (now (out .entry))) ⌝ }
 {
     let most = rate - 1;
@@ -141,7 +141,7 @@ pub fn sealed_into(a: [u64; 25], body: &[u8], rate: usize, out: &mut [u8]) -> [u
 
 // One piece of a ciphertext opened: its plaintext goes to `out`, and that is what is absorbed.
 fn open_piece(a: [u64; 25], p: &[u8], frame: u8, rate: usize, out: &mut [u8]) -> [u64; 25]
-    requires { ⌜ Rate rate × (length (now p) < rate) × (frame < 2) × (length (now out) ≡ length (now p)) ⌝ }
+    requires { ⌜ Rate 64 rate × (length (now p) < rate) × (frame < 2) × (length (now out) ≡ length (now p)) ⌝ }
     ensures { λ r. ⌜ (r ≡ duplexing 64 f1600 rate a (now (out .exit)) frame) × (now (out .exit) ≡ xored (now (p .entry)) (bytes 64 a)) ⌝ }
 {
     mask_into(a, p, out);
@@ -150,7 +150,7 @@ fn open_piece(a: [u64; 25], p: &[u8], frame: u8, rate: usize, out: &mut [u8]) ->
 
 // A ciphertext opened into the first bytes of `out`, and the state after it.
 pub fn opened_into(a: [u64; 25], cipher: &[u8], rate: usize, out: &mut [u8]) -> [u64; 25]
-    requires { ⌜ Rate rate × (length (now cipher) ≤ length (now out)) ⌝ }
+    requires { ⌜ Rate 64 rate × (length (now cipher) ≤ length (now out)) ⌝ }
     ensures { λ r. ⌜ (r ≡ absorbed 64 f1600 rate a 1 0 (opened 64 f1600 rate a (now (cipher .entry)))) × (now (out .exit) ≡ opened 64 f1600 rate a (now (cipher .entry)) ++ drop (length (now (cipher .entry))) (now (out .entry))) ⌝ }
 {
     let most = rate - 1;
@@ -168,7 +168,7 @@ pub fn opened_into(a: [u64; 25], cipher: &[u8], rate: usize, out: &mut [u8]) -> 
 
 // One piece of a ciphertext opened in a local buffer.
 fn peek_piece(a: [u64; 25], p: &[u8], frame: u8, rate: usize) -> [u64; 25]
-    requires { ⌜ Rate rate × (length (now p) < rate) × (frame < 2) ⌝ }
+    requires { ⌜ Rate 64 rate × (length (now p) < rate) × (frame < 2) ⌝ }
     ensures { λ r. ⌜ r ≡ duplexing 64 f1600 rate a (xored (now (p .entry)) (bytes 64 a)) frame ⌝ }
 {
     let mut plain = [0u8; 200];
@@ -178,7 +178,7 @@ fn peek_piece(a: [u64; 25], p: &[u8], frame: u8, rate: usize) -> [u64; 25]
 
 // The state after opening a ciphertext, with nothing written: what a tag is checked against before a body is released.
 pub fn peeked(a: [u64; 25], cipher: &[u8], rate: usize) -> [u64; 25]
-    requires { ⌜ Rate rate ⌝ }
+    requires { ⌜ Rate 64 rate ⌝ }
     ensures { λ r. ⌜ r ≡ absorbed 64 f1600 rate a 1 0 (opened 64 f1600 rate a (now (cipher .entry))) ⌝ }
 {
     let most = rate - 1;
@@ -195,7 +195,7 @@ pub fn peeked(a: [u64; 25], cipher: &[u8], rate: usize) -> [u64; 25]
 
 // A duplexing of the empty piece.
 fn blanked(a: [u64; 25], rate: usize) -> [u64; 25]
-    requires { ⌜ Rate rate ⌝ }
+    requires { ⌜ Rate 64 rate ⌝ }
     ensures { λ r. ⌜ r ≡ blank 64 f1600 rate a ⌝ }
 {
     duplexed(a, b"", 0, rate)
@@ -203,7 +203,7 @@ fn blanked(a: [u64; 25], rate: usize) -> [u64; 25]
 
 // The whole slice filled with output, rate - 1 bytes a state, and the state that the last of it was read from.
 pub fn drawn_into(a: [u64; 25], rate: usize, out: &mut [u8]) -> [u64; 25]
-    requires { ⌜ Rate rate ⌝ }
+    requires { ⌜ Rate 64 rate ⌝ }
     ensures { λ r. ⌜ (r ≡ after 64 f1600 rate a (length (now (out .entry)))) × (now (out .exit) ≡ drawn 64 f1600 rate a (length (now (out .entry)))) ⌝ }
 {
     let most = rate - 1;

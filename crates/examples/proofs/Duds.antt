@@ -14,6 +14,7 @@ use Rattle.sponge.specs.Padding.{tail, padded}
 use Rattle.sponge.specs.Sponge.{zeros, absorbBlock, absorb, iterate}
 use Rattle.duplex.specs.Duplex.{framed, after}
 use Rattle.duplex.specs.Strings.{blocks, front, cut, xored, absorbed, masked, sealed, unmasked, opened as opened-string}
+use Rattle.spongewrap.specs.Desk.{desk}
 use Rattle.spongewrap.specs.SpongeWrap.{headed, bodied, ciphertext, left, plaintext}
 use Rattle.spongewrap.specs.Refusals.{pick, openRefusal, wrapRefusal, unwrapRefusal}
 use Rattle.spongewrap.specs.Sessions.{opened, opens, cost, advanced, next, sealing, tagOf, recovered, Seen, wraps, unwraps}
@@ -29,7 +30,7 @@ plain R = record { lanes = zeros; rate = R; tag = 16; pairs = 1; calls = 1 }
 
 -- ---- open
 
-module _ (g : List ℕ → ℕ → ℕ → Answer) (meets : (key : List ℕ) (R t : ℕ) → g key R t ≡ opens key R t) where
+module _ (g : List ℕ → ℕ → ℕ → Answer) (meets : (key : List ℕ) (R t : ℕ) → g key R t ≡ opens desk key R t) where
   opens-well : g (replicate 16 0) 136 16 .number ≡ 0
   unfolding opens opened openRefusal pick
   opens-well = rw meets
@@ -61,19 +62,19 @@ unfolding after-header headed absorbed cut front framed blocksOf piece before pa
 header-state = refl
 
 -- from it: the first byte of a ciphertext and of the body that a ciphertext opens to, and the first lane after a pair
-first-byte : getD (sealing (plain 136) [] (0 ∷ [])) 0 0 ≡ 0x1f
+first-byte : getD (sealing desk (plain 136) [] (0 ∷ [])) 0 0 ≡ 0x1f
 unfolding plain sealing ciphertext sealed masked front blocksOf blocks piece before absorb xored table bytes byteOf after-header
 first-byte = rw header-state refl
 
-first-opened : getD (recovered (plain 136) [] (0 ∷ [])) 0 0 ≡ 0x1f
+first-opened : getD (recovered desk (plain 136) [] (0 ∷ [])) 0 0 ≡ 0x1f
 unfolding plain recovered plaintext opened-string unmasked front blocksOf blocks piece before absorb xored table bytes byteOf after-header
 first-opened = rw header-state refl
 
-pair-state : next (plain 136) [] [] .lanes ≡ absorbed 64 f1600 136 after-header 1 0 []
+pair-state : next desk (plain 136) [] [] .lanes ≡ absorbed 64 f1600 136 after-header 1 0 []
 unfolding plain next advanced left after iterate before bodied
 pair-state = rw header-state
 
-first-lane : getD (next (plain 136) [] [] .lanes) 0 0 ≡ 0xc026b87a93e8a9ee
+first-lane : getD (next desk (plain 136) [] [] .lanes) 0 0 ≡ 0xc026b87a93e8a9ee
 unfolding absorbed cut front framed blocksOf piece before padded tail absorb absorbBlock mixed laneOf table rounds round after-header
 first-lane = ap (λ (l : List ℕ). getD l 0 0) pair-state
 
@@ -82,21 +83,21 @@ body-lane : getD (absorbed 64 f1600 136 zeros 1 0 []) 0 0 ≡ 0xf4ef9e9955cbe5c3
 unfolding absorbed cut front framed blocksOf piece before padded tail absorb absorbBlock mixed laneOf table zeros rounds round
 body-lane = refl
 
-module _ (g : Session → List ℕ → List ℕ → List ℕ → Seen) (meets : (s : Session) (h b o : List ℕ) → g s h b o ≡ wraps s h b o) where
+module _ (g : Session → List ℕ → List ℕ → List ℕ → Seen) (meets : (s : Session) (h b o : List ℕ) → g s h b o ≡ wraps desk s h b o) where
   -- an output with room
   room : List ℕ
   room = replicate 256 0
 
-  module _ (b : List ℕ) (e : wrapRefusal (plain 136) 0 (length b) 256 ≡ 0) where
-    wraps-well : wraps (plain 136) [] b room .answer .number ≡ 0
+  module _ (b : List ℕ) (e : wrapRefusal desk (plain 136) 0 (length b) 256 ≡ 0) where
+    wraps-well : wraps desk (plain 136) [] b room .answer .number ≡ 0
     unfolding room
-    wraps-well = wrap-number (plain 136) [] b (replicate 256 0) ∙ e
+    wraps-well = wrap-number desk (plain 136) [] b (replicate 256 0) ∙ e
 
     well : g (plain 136) [] b room .answer .number ≡ 0
     well = rw meets wraps-well
 
-    session : g (plain 136) [] b room .answer .session ≡ next (plain 136) [] b
-    session = rw meets (ap (λ (v : Seen). v .answer .session) (wrapped-is (plain 136) [] b room wraps-well))
+    session : g (plain 136) [] b room .answer .session ≡ next desk (plain 136) [] b
+    session = rw meets (ap (λ (v : Seen). v .answer .session) (wrapped-is desk (plain 136) [] b room wraps-well))
 
   -- A wrap that refuses everything.
   pub wrap-refuses-all : ((s : Session) (h b o : List ℕ) → g s h b o .answer .number ≡ 0 → ⊥) → ⊥
@@ -108,7 +109,7 @@ module _ (g : Session → List ℕ → List ℕ → List ℕ → Seen) (meets : 
   unfolding plain wrapRefusal pick
   wrap-fixed v d =
       let n : (s : Session) (o : List ℕ) → g s [] [] o .answer .number ≡ v .number = λ s o. ap (λ (a : Answer). a .number) (d s [] [] o) in
-      let z : _≡_ {A = ℕ} 0 1 = sym (well [] refl) ∙ n (plain 136) room ∙ sym (n (plain 0) []) ∙ rw meets (wrap-number (plain 0) [] [] []) in
+      let z : _≡_ {A = ℕ} 0 1 = sym (well [] refl) ∙ n (plain 136) room ∙ sym (n (plain 0) []) ∙ rw meets (wrap-number desk (plain 0) [] [] []) in
       omega arith
 
   -- A wrap that does nothing.
@@ -122,15 +123,15 @@ module _ (g : Session → List ℕ → List ℕ → List ℕ → Seen) (meets : 
   pub wrap-copies-body : ((s : Session) (h b o : List ℕ) → g s h b o .answer .number ≡ 0 → take (length b) (g s h b o .out) ≡ b) → ⊥
   unfolding plain wrapRefusal pick
   wrap-copies-body d =
-      let e : take 1 (wraps (plain 136) [] (0 ∷ []) room .out) ≡ 0 ∷ [] = rw meets at (d (plain 136) [] (0 ∷ []) room (well (0 ∷ []) refl)) in
-      let z : _≡_ {A = ℕ} 0x1f 0 = sym first-byte ∙ ap (λ (l : List ℕ). getD l 0 0) (sym (text-is (plain 136) [] (0 ∷ []) room (wraps-well (0 ∷ []) refl)) ∙ e) in
+      let e : take 1 (wraps desk (plain 136) [] (0 ∷ []) room .out) ≡ 0 ∷ [] = rw meets at (d (plain 136) [] (0 ∷ []) room (well (0 ∷ []) refl)) in
+      let z : _≡_ {A = ℕ} 0x1f 0 = sym first-byte ∙ ap (λ (l : List ℕ). getD l 0 0) (sym (text-is desk (plain 136) [] (0 ∷ []) room (wraps-well (0 ∷ []) refl)) ∙ e) in
       omega arith
 
   -- A wrap that mixes only the first pair into the state, whatever tags it gives to later ones.
   pub wrap-mixes-first-only : ((s : Session) (h b o : List ℕ) → 0 < s .pairs → g s h b o .answer .session .lanes ≡ s .lanes) → ⊥
   unfolding plain wrapRefusal pick
   wrap-mixes-first-only d =
-      let e : next (plain 136) [] [] .lanes ≡ zeros = sym (ap (λ (s : Session). s .lanes) (session [] refl)) ∙ d (plain 136) [] [] room (lit< tt) in
+      let e : next desk (plain 136) [] [] .lanes ≡ zeros = sym (ap (λ (s : Session). s .lanes) (session [] refl)) ∙ d (plain 136) [] [] room (lit< tt) in
       let z : _≡_ {A = ℕ} 0xc026b87a93e8a9ee 0 = sym first-lane ∙ ap (λ (l : List ℕ). getD l 0 0) e ∙ (unfold zeros in refl) in
       omega arith
 
@@ -139,7 +140,7 @@ module _ (g : Session → List ℕ → List ℕ → List ℕ → Seen) (meets : 
       → g s [] b o .answer .session .lanes ≡ after 64 f1600 (s .rate) (absorbed 64 f1600 (s .rate) (s .lanes) 1 0 b) (s .tag)) → ⊥
   unfolding plain wrapRefusal pick after iterate before
   wrap-skips-empty-header d =
-      let e : next (plain 136) [] [] .lanes ≡ absorbed 64 f1600 136 zeros 1 0 [] = sym (ap (λ (s : Session). s .lanes) (session [] refl)) ∙ d (plain 136) [] room (well [] refl) in
+      let e : next desk (plain 136) [] [] .lanes ≡ absorbed 64 f1600 136 zeros 1 0 [] = sym (ap (λ (s : Session). s .lanes) (session [] refl)) ∙ d (plain 136) [] room (well [] refl) in
       let z : _≡_ {A = ℕ} 0xc026b87a93e8a9ee 0xf4ef9e9955cbe5c3 = sym first-lane ∙ ap (λ (l : List ℕ). getD l 0 0) e ∙ body-lane in
       omega arith
 
@@ -148,7 +149,7 @@ module _ (g : Session → List ℕ → List ℕ → List ℕ → Seen) (meets : 
       → g s h [] o .answer .session .lanes ≡ after 64 f1600 (s .rate) (headed 64 f1600 (s .rate) (s .lanes) h) (s .tag)) → ⊥
   unfolding plain wrapRefusal pick after iterate before
   wrap-skips-empty-body d =
-      let e : next (plain 136) [] [] .lanes ≡ headed 64 f1600 136 zeros [] = sym (ap (λ (s : Session). s .lanes) (session [] refl)) ∙ d (plain 136) [] room (well [] refl) in
+      let e : next desk (plain 136) [] [] .lanes ≡ headed 64 f1600 136 zeros [] = sym (ap (λ (s : Session). s .lanes) (session [] refl)) ∙ d (plain 136) [] room (well [] refl) in
       let z : _≡_ {A = ℕ} 0xc026b87a93e8a9ee 0x4aff58b51d129e1f =
       sym first-lane ∙ ap (λ (l : List ℕ). getD l 0 0) (e ∙ header-state) ∙ (unfold after-header in refl) in
       omega arith
@@ -157,21 +158,21 @@ module _ (g : Session → List ℕ → List ℕ → List ℕ → Seen) (meets : 
   pub wrap-invents-count : (count : Session → ℕ) → ((s : Session) (h b o : List ℕ) → g s h b o .answer .number ≡ 0 → g s h b o .answer .session .calls ≡ count s) → ⊥
   unfolding plain wrapRefusal pick next advanced cost blocks before
   wrap-invents-count count d =
-      let n : (b : List ℕ) (e : wrapRefusal (plain 136) 0 (length b) 256 ≡ 0) → next (plain 136) [] b .calls ≡ count (plain 136) =
+      let n : (b : List ℕ) (e : wrapRefusal desk (plain 136) 0 (length b) 256 ≡ 0) → next desk (plain 136) [] b .calls ≡ count (plain 136) =
       λ b e. sym (ap (λ (s : Session). s .calls) (session b e)) ∙ d (plain 136) [] b room (well b e) in
       let z : _≡_ {A = ℕ} 3 4 = n [] refl ∙ sym (n (replicate 136 0) refl) in
       omega arith
 
 -- ---- unwrap
 
-module _ (g : Session → List ℕ → List ℕ → List ℕ → List ℕ → Seen) (meets : (s : Session) (h c t o : List ℕ) → g s h c t o ≡ unwraps s h c t o) where
+module _ (g : Session → List ℕ → List ℕ → List ℕ → List ℕ → Seen) (meets : (s : Session) (h c t o : List ℕ) → g s h c t o ≡ unwraps desk s h c t o) where
   -- the tag of the empty pair
   due : List ℕ
-  due = tagOf (plain 136) [] (recovered (plain 136) [] [])
+  due = tagOf desk (plain 136) [] (recovered desk (plain 136) [] [])
 
-  unwraps-well : unwraps (plain 136) [] [] due [] .answer .number ≡ 0
+  unwraps-well : unwraps desk (plain 136) [] [] due [] .answer .number ≡ 0
   unfolding due plain unwrapRefusal pick
-  unwraps-well = unwrap-accepts-exactly (plain 136) [] [] due [] refl .1 refl
+  unwraps-well = unwrap-accepts-exactly desk (plain 136) [] [] due [] refl .1 refl
 
   -- An unwrap that refuses everything.
   pub unwrap-refuses-all : ((s : Session) (h c t o : List ℕ) → g s h c t o .answer .number ≡ 0 → ⊥) → ⊥
@@ -182,26 +183,26 @@ module _ (g : Session → List ℕ → List ℕ → List ℕ → List ℕ → Se
   unfolding plain unwrapRefusal pick
   unwrap-fixed v d =
       let n : (s : Session) → g s [] [] due [] .answer .number ≡ v .number = λ s. ap (λ (a : Answer). a .number) (d s [] [] due []) in
-      let z : _≡_ {A = ℕ} 0 1 = sym (rw meets unwraps-well) ∙ n (plain 136) ∙ sym (n (plain 0)) ∙ rw meets (unwrap-number (plain 0) [] [] due []) in
+      let z : _≡_ {A = ℕ} 0 1 = sym (rw meets unwraps-well) ∙ n (plain 136) ∙ sym (n (plain 0)) ∙ rw meets (unwrap-number desk (plain 0) [] [] due []) in
       omega arith
 
   -- An unwrap that does nothing.
   pub unwrap-does-nothing : ((s : Session) (h c t o : List ℕ) → g s h c t o .answer .session ≡ s) → ⊥
   unfolding plain next advanced
   unwrap-does-nothing d =
-      let e : unwraps (plain 136) [] [] due [] .answer .session ≡ plain 136 = rw meets at (d (plain 136) [] [] due []) in
-      let z : _≡_ {A = ℕ} 2 1 = ap (λ (s : Session). s .pairs) (sym (ap (λ (v : Seen). v .answer .session) (unwrapped-is (plain 136) [] [] due [] unwraps-well)) ∙ e) in
+      let e : unwraps desk (plain 136) [] [] due [] .answer .session ≡ plain 136 = rw meets at (d (plain 136) [] [] due []) in
+      let z : _≡_ {A = ℕ} 2 1 = ap (λ (s : Session). s .pairs) (sym (ap (λ (v : Seen). v .answer .session) (unwrapped-is desk (plain 136) [] [] due [] unwraps-well)) ∙ e) in
       omega arith
 
   -- An unwrap that writes the plaintext and then checks the tag.
-  pub unwrap-writes-early : ((s : Session) (h c t o : List ℕ) → g s h c t o .answer .number ≡ 8 → take (length c) (g s h c t o .out) ≡ recovered s h c) → ⊥
+  pub unwrap-writes-early : ((s : Session) (h c t o : List ℕ) → g s h c t o .answer .number ≡ 8 → take (length c) (g s h c t o .out) ≡ recovered desk s h c) → ⊥
   unfolding plain unwrapRefusal pick
   unwrap-writes-early d =
       let c : List ℕ = 0 ∷ [] in
-      let r = unwrap-fits (plain 136) 0 1 1 refl .0 .rate in
-      let other : [] ≡ tagOf (plain 136) [] (recovered (plain 136) [] c) → ⊥ = λ e. omega (arith, ap length e, length-tagOf (plain 136) [] (recovered (plain 136) [] c) r) in
-      let n = wrong-tag-releases-nothing (plain 136) [] c [] c refl other in
-      let e : take 1 (unwraps (plain 136) [] c [] c .out) ≡ recovered (plain 136) [] c =
+      let r = unwrap-fits desk (plain 136) 0 1 1 refl .0 .rate in
+      let other : [] ≡ tagOf desk (plain 136) [] (recovered desk (plain 136) [] c) → ⊥ = λ e. omega (arith, ap length e, length-tagOf desk (plain 136) [] (recovered desk (plain 136) [] c) r) in
+      let n = wrong-tag-releases-nothing desk (plain 136) [] c [] c refl other in
+      let e : take 1 (unwraps desk (plain 136) [] c [] c .out) ≡ recovered desk (plain 136) [] c =
       rw meets at (d (plain 136) [] c [] c (rw meets (ap (λ (v : Seen). v .answer .number) n))) in
       let z : _≡_ {A = ℕ} 0 0x1f = ap (λ (l : List ℕ). getD l 0 0) (sym (ap (λ (v : Seen). take 1 (v .out)) n) ∙ e) ∙ first-opened in
       omega arith

@@ -9,6 +9,7 @@ use Rattle.sponge.specs.Padding.{tail, padded}
 use Rattle.sponge.specs.Pieces.{before}
 use Rattle.duplex.specs.Duplex.{framed}
 use Rattle.duplex.specs.Strings.{blocks}
+use Rattle.spongewrap.specs.Desk.{desk}
 use Rattle.spongewrap.specs.Refusals.{pick, openRefusal, wrapRefusal}
 use Rattle.spongewrap.specs.Sessions.{opened, opens, cost, advanced, next, settled, wraps}
 use Rattle.spongewrap.specs.declared.Session.{Session}
@@ -19,10 +20,10 @@ byte i n b = getD (framed 136 b (replicate n 0x41)) i 0
 
 -- a session from a key of 32 bytes, and after a header of 16 with an empty body
 begun : Session
-begun = opens (replicate 32 0x41) 136 16 .session
+begun = opens desk (replicate 32 0x41) 136 16 .session
 
 entered : Session
-entered = wraps begun (replicate 16 0x41) [] (replicate 16 0) .answer .session
+entered = wraps desk begun (replicate 16 0x41) [] (replicate 16 0) .answer .session
 
 -- what is computed, and what the document lists
 pub cases : List (ℕ × ℕ)

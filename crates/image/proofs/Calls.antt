@@ -6,6 +6,7 @@ use Prim.Native.Nat.{ℕ, zero, suc}
 use lib.Dec.{eqb}
 use lib.ListN.{length}
 use borrow.Author.Tests.{eq-eqb, ne-eqb}
+use Rattle.spongewrap.specs.Desk.{desk}
 use Rattle.spongewrap.specs.Sessions as sessions
 use Rattle.spongewrap.specs.Sessions.{opens, wraps, unwraps}
 use Rattle.spongewrap.specs.declared.Answer.{Answer}
@@ -35,18 +36,18 @@ module _ (i o : List ℕ) (w : sessions.Seen) where
   unfolding whole
   called h a o′ e n i′ f g = rw (eq-eqb (length i) imageLength h, ← e, f, g)
 
-pub opened-is : (i i′ : List ℕ) (n : ℕ) (a : Answer) (key : List ℕ) (R t : ℕ) → length i ≡ imageLength → a ≡ opens key R t
+pub opened-is : (i i′ : List ℕ) (n : ℕ) (a : Answer) (key : List ℕ) (R t : ℕ) → length i ≡ imageLength → a ≡ opens desk key R t
     → (n ≡ a .number) × (i′ ≡ kept (a .number) i (a .session)) → seen n i′ [] ≡ opensImage key R t i
 unfolding opensImage
 opened-is i i′ n a key R t h e f = called i [] _ h a [] (rw e) n i′ (f .0) (f .1)
 
 pub wrapped-is : (i i′ : List ℕ) (n : ℕ) (a : Answer) (s : Session) (k b o o′ : List ℕ) → length i ≡ imageLength → s ≡ sessionOf i
-    → sessions.seen a o′ ≡ wraps s k b o → (n ≡ a .number) × (i′ ≡ kept (a .number) i (a .session)) → seen n i′ o′ ≡ wrapsImage i k b o
+    → sessions.seen a o′ ≡ wraps desk s k b o → (n ≡ a .number) × (i′ ≡ kept (a .number) i (a .session)) → seen n i′ o′ ≡ wrapsImage i k b o
 unfolding wrapsImage
 wrapped-is i i′ n a s k b o o′ h z e f = called i o _ h a o′ (e ∙ rw z) n i′ (f .0) (f .1)
 
 pub unwrapped-is : (i i′ : List ℕ) (n : ℕ) (a : Answer) (s : Session) (k c t o o′ : List ℕ) → length i ≡ imageLength → s ≡ sessionOf i
-    → sessions.seen a o′ ≡ unwraps s k c t o → (n ≡ a .number) × (i′ ≡ kept (a .number) i (a .session)) → seen n i′ o′ ≡ unwrapsImage i k c t o
+    → sessions.seen a o′ ≡ unwraps desk s k c t o → (n ≡ a .number) × (i′ ≡ kept (a .number) i (a .session)) → seen n i′ o′ ≡ unwrapsImage i k c t o
 unfolding unwrapsImage
 unwrapped-is i i′ n a s k c t o o′ h z e f = called i o _ h a o′ (e ∙ rw z) n i′ (f .0) (f .1)
 
@@ -67,8 +68,8 @@ open-kept key R t i d = whole-kept _ i [] _ (λ _. refl) d
 
 pub wrap-kept : (i h b o : List ℕ) → (wrapsImage i h b o .number ≡ 0 → ⊥) → Kept i o (wrapsImage i h b o)
 unfolding wrapsImage
-wrap-kept i h b o d = whole-kept _ i o _ (λ e. theorems.wrap-kept (sessionOf i) h b o e .out) d
+wrap-kept i h b o d = whole-kept _ i o _ (λ e. theorems.wrap-kept desk (sessionOf i) h b o e .out) d
 
 pub unwrap-kept : (i h c t o : List ℕ) → (unwrapsImage i h c t o .number ≡ 0 → ⊥) → Kept i o (unwrapsImage i h c t o)
 unfolding unwrapsImage
-unwrap-kept i h c t o d = whole-kept _ i o _ (λ e. theorems.unwrap-kept (sessionOf i) h c t o e .out) d
+unwrap-kept i h c t o d = whole-kept _ i o _ (λ e. theorems.unwrap-kept desk (sessionOf i) h c t o e .out) d

@@ -4,6 +4,7 @@ use mathlib.Core.List.{List, []}
 use mathlib.Core.Bool.{Bool, true, false}
 use lib.Dec.{eqb}
 use lib.ListN.{length}
+use Rattle.spongewrap.specs.Desk.{desk}
 use Rattle.spongewrap.specs.declared.Session.{Session}
 use Rattle.spongewrap.specs.Sessions as sessions
 use Rattle.spongewrap.specs.Sessions.{opens, wraps, unwraps}
@@ -32,10 +33,10 @@ whole false i o w = seen 6 i o
 whole true i o w = answered i w
 
 unfoldable pub opensImage : List ℕ → ℕ → ℕ → List ℕ → Seen
-opensImage key R t i = whole (eqb (length i) imageLength) i [] (sessions.seen (opens key R t) [])
+opensImage key R t i = whole (eqb (length i) imageLength) i [] (sessions.seen (opens desk key R t) [])
 
 unfoldable pub wrapsImage : List ℕ → List ℕ → List ℕ → List ℕ → Seen
-wrapsImage i h b o = whole (eqb (length i) imageLength) i o (wraps (sessionOf i) h b o)
+wrapsImage i h b o = whole (eqb (length i) imageLength) i o (wraps desk (sessionOf i) h b o)
 
 unfoldable pub unwrapsImage : List ℕ → List ℕ → List ℕ → List ℕ → List ℕ → Seen
-unwrapsImage i h c t o = whole (eqb (length i) imageLength) i o (unwraps (sessionOf i) h c t o)
+unwrapsImage i h c t o = whole (eqb (length i) imageLength) i o (unwraps desk (sessionOf i) h c t o)

@@ -4,6 +4,7 @@ use mathlib.Core.List.{List}
 use Prim.Native.Nat.{ℕ}
 use contract.Lifetimes.{Lfts}
 use denote.Ref.{now}
+use Rattle.spongewrap.specs.Desk.{desk}
 use Rattle.spongewrap.specs.Sessions.{seen, wraps, unwraps}
 use Rattle.spongewrap.specs.declared.Session.{Session}
 use Rattle.spongewrap.specs.declared.Answer.{Answer}
@@ -23,11 +24,11 @@ unwrap-lent-outcome κs a x y s t e h = parts x y _ _ (e ∙ sym h)
 -- the answer n with the session t that is left behind the reference, and the output x.
 
 pub wrap-in-place-outcome : (s : Session) (h b o : List ℕ) (n m : ℕ) (t u : Session) (x y : List ℕ)
-    → seen (record { number = n; session = t }) x ≡ wraps s h b o → seen (record { number = m; session = u }) y ≡ wraps s h b o
+    → seen (record { number = n; session = t }) x ≡ wraps desk s h b o → seen (record { number = m; session = u }) y ≡ wraps desk s h b o
     → (_≡_ {A = Answer} (record { number = n; session = t }) (record { number = m; session = u })) × (x ≡ y)
 wrap-in-place-outcome s h b o n m t u x y e f = parts _ _ x y (e ∙ sym f)
 
 pub unwrap-in-place-outcome : (s : Session) (h c k o : List ℕ) (n m : ℕ) (t u : Session) (x y : List ℕ)
-    → seen (record { number = n; session = t }) x ≡ unwraps s h c k o → seen (record { number = m; session = u }) y ≡ unwraps s h c k o
+    → seen (record { number = n; session = t }) x ≡ unwraps desk s h c k o → seen (record { number = m; session = u }) y ≡ unwraps desk s h c k o
     → (_≡_ {A = Answer} (record { number = n; session = t }) (record { number = m; session = u })) × (x ≡ y)
 unwrap-in-place-outcome s h c k o n m t u x y e f = parts _ _ x y (e ∙ sym f)

@@ -1,12 +1,13 @@
 // The running session, advanced where it stands: thin functions over the calls that take a session and hand one back.
 ghost use mathlib.Core.Path.{_≡_};
 ghost use Rattle.spongewrap.specs.Sessions.{seen, wraps, unwraps};
+ghost use Rattle.spongewrap.specs.Desk.{desk};
 use spongewrap::Answer;
 use spongewrap::Session;
 
 // Seals a pair and leaves the next session behind the reference. The answer is 0 or a refusal's number.
 pub fn wrap_in_place(s: &mut Session, header: &[u8], body: &[u8], out: &mut [u8]) -> u8
-    ensures { λ r. ⌜ seen (record { number = r; session = now (s .exit) }) (now (out .exit)) ≡ wraps (now (s .entry)) (now (header .entry)) (now (body .entry)) (now (out .entry)) ⌝ }
+    ensures { λ r. ⌜ seen (record { number = r; session = now (s .exit) }) (now (out .exit)) ≡ wraps desk (now (s .entry)) (now (header .entry)) (now (body .entry)) (now (out .entry)) ⌝ }
 {
     let taken = *s;
     let done = spongewrap::wrap(taken, header, body, out);
@@ -22,7 +23,7 @@ pub fn unwrap_in_place(
     tag: &[u8],
     out: &mut [u8],
 ) -> u8
-    ensures { λ r. ⌜ seen (record { number = r; session = now (s .exit) }) (now (out .exit)) ≡ unwraps (now (s .entry)) (now (header .entry)) (now (cipher .entry)) (now (tag .entry)) (now (out .entry)) ⌝ }
+    ensures { λ r. ⌜ seen (record { number = r; session = now (s .exit) }) (now (out .exit)) ≡ unwraps desk (now (s .entry)) (now (header .entry)) (now (cipher .entry)) (now (tag .entry)) (now (out .entry)) ⌝ }
 {
     let taken = *s;
     let done = spongewrap::unwrap(taken, header, cipher, tag, out);
@@ -33,7 +34,7 @@ pub fn unwrap_in_place(
 // The same by value: the session is lent to the call above and given back. The proofs of programs stop at a reference that
 // they make themselves, so a program goes this way.
 pub fn wrap_lent(s: Session, header: &[u8], body: &[u8], out: &mut [u8]) -> Answer
-    ensures { λ r. ⌜ seen r (now (out .exit)) ≡ wraps s (now (header .entry)) (now (body .entry)) (now (out .entry)) ⌝ }
+    ensures { λ r. ⌜ seen r (now (out .exit)) ≡ wraps desk s (now (header .entry)) (now (body .entry)) (now (out .entry)) ⌝ }
 {
     let mut running = s;
     let number = wrap_in_place(&mut running, header, body, out);
@@ -44,7 +45,7 @@ pub fn wrap_lent(s: Session, header: &[u8], body: &[u8], out: &mut [u8]) -> Answ
 }
 
 pub fn unwrap_lent(s: Session, header: &[u8], cipher: &[u8], tag: &[u8], out: &mut [u8]) -> Answer
-    ensures { λ r. ⌜ seen r (now (out .exit)) ≡ unwraps s (now (header .entry)) (now (cipher .entry)) (now (tag .entry)) (now (out .entry)) ⌝ }
+    ensures { λ r. ⌜ seen r (now (out .exit)) ≡ unwraps desk s (now (header .entry)) (now (cipher .entry)) (now (tag .entry)) (now (out .entry)) ⌝ }
 {
     let mut running = s;
     let number = unwrap_in_place(&mut running, header, cipher, tag, out);

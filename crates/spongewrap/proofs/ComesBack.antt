@@ -5,11 +5,11 @@ use native.Mathlib.Omega.{arith}
 use mathlib.Core.Path.{_≡_, refl, sym, ap, _∙_}
 use mathlib.Core.List.{List, [], _∷_, _++_, map}
 use lib.ListN.{length, getD, drop}
-use Rattle.keccak.specs.Rounds.{f1600}
 use Rattle.sponge.specs.Sponge.{sponge}
 use Rattle.duplex.specs.Strings.{cut}
 use Rattle.spongewrap.specs.Sessions.{opens, seen, wraps, unwraps}
 use Rattle.spongewrap.specs.History.{Call, Pair, content, after, accepted, pairBlocks, pairsBlocks, history, Told}
+use Rattle.spongewrap.specs.Kinds.{Kind}
 use Rattle.spongewrap.specs.declared.Session.{Session}
 use Rattle.spongewrap.proofs.Theorems.{text, mark, wrap-unwrap}
 use Rattle.spongewrap.proofs.Histories.{history-tells}
@@ -30,26 +30,27 @@ parts : {l l′ : List ℕ} {a a′ b b′ c c′ d d′ : ℕ} → l ≡ l′ �
     → _≡_ {A = Session} (record { lanes = l; rate = a; tag = b; pairs = c; calls = d }) (record { lanes = l′; rate = a′; tag = b′; pairs = c′; calls = d′ })
 parts u v w x y = cc
 
--- what is told of two sessions makes them one, where the headers and bodies are the same
-told-same : (R t : ℕ) (key : List ℕ) (ps qs : List Pair) (s r : Session) → map content ps ≡ map content qs → Told R t key ps s → Told R t key qs r → s ≡ r
-unfolding history
-told-same R t key ps qs s r e x y =
-    let z = same-blocks R t ps qs e in
-    let h : cut R 1 0 key ++ pairsBlocks R t ps ≡ cut R 1 0 key ++ pairsBlocks R t qs = rw (z .0) in
-    parts (x .state ∙ ap (sponge 64 f1600) h ∙ sym (y .state)) (x .rate ∙ sym (y .rate)) (x .tag ∙ sym (y .tag)) (x .pairs ∙ z .1 ∙ sym (y .pairs))
-    (sym (x .blocks-number) ∙ ap length h ∙ y .blocks-number)
+module _ (K : Kind) where
+  -- what is told of two sessions makes them one, where the headers and bodies are the same
+  told-same : (R t : ℕ) (key : List ℕ) (ps qs : List Pair) (s r : Session) → map content ps ≡ map content qs → Told K R t key ps s → Told K R t key qs r → s ≡ r
+  unfolding history
+  told-same R t key ps qs s r e x y =
+      let z = same-blocks R t ps qs e in
+      let h : cut R 1 0 key ++ pairsBlocks R t ps ≡ cut R 1 0 key ++ pairsBlocks R t qs = rw (z .0) in
+      parts (x .state ∙ ap (sponge (K .w) (K .f)) h ∙ sym (y .state)) (x .rate ∙ sym (y .rate)) (x .tag ∙ sym (y .tag)) (x .pairs ∙ z .1 ∙ sym (y .pairs))
+      (sym (x .blocks-number) ∙ ap length h ∙ y .blocks-number)
 
-module _ (key : List ℕ) (R t : ℕ) (e : opens key R t .number ≡ 0) where
-  abbrev begun : Session
-  begun = opens key R t .session
+  module _ (key : List ℕ) (R t : ℕ) (e : opens K key R t .number ≡ 0) where
+    abbrev begun : Session
+    begun = opens K key R t .session
 
-  -- Two runs of calls from one open in which the same headers and bodies were accepted in the same order end in the same session.
-  pub same-history : (cs ds : List Call) → map content (accepted begun cs) ≡ map content (accepted begun ds) → after begun cs ≡ after begun ds
-  same-history cs ds m = told-same R t key _ _ _ _ m (history-tells key R t cs e) (history-tells key R t ds e)
+    -- Two runs of calls from one open in which the same headers and bodies were accepted in the same order end in the same session.
+    pub same-history : (cs ds : List Call) → map content (accepted K begun cs) ≡ map content (accepted K begun ds) → after K begun cs ≡ after K begun ds
+    same-history cs ds m = told-same R t key _ _ _ _ m (history-tells K key R t cs e) (history-tells K key R t ds e)
 
-  -- Under the same key, settings and earlier pairs, what one end wrapped comes back exactly at the other, and both stand at one session again.
-  pub comes-back : (cs ds : List Call) → map content (accepted begun cs) ≡ map content (accepted begun ds)
-      → (h b o o′ : List ℕ) → wraps (after begun cs) h b o .answer .number ≡ 0 → length b ≤ length o′
-      → unwraps (after begun ds) h (text (after begun cs) h b o) (mark (after begun cs) h b o) o′
-      ≡ seen (record { number = 0; session = wraps (after begun cs) h b o .answer .session }) (b ++ drop (length b) o′)
-  comes-back cs ds m h b o o′ a l = rw (sym (same-history cs ds m)) (wrap-unwrap (after begun cs) h b o a o′ l)
+    -- Under the same key, settings and earlier pairs, what one end wrapped comes back exactly at the other, and both stand at one session again.
+    pub comes-back : (cs ds : List Call) → map content (accepted K begun cs) ≡ map content (accepted K begun ds)
+        → (h b o o′ : List ℕ) → wraps K (after K begun cs) h b o .answer .number ≡ 0 → length b ≤ length o′
+        → unwraps K (after K begun ds) h (text K (after K begun cs) h b o) (mark K (after K begun cs) h b o) o′
+        ≡ seen (record { number = 0; session = wraps K (after K begun cs) h b o .answer .session }) (b ++ drop (length b) o′)
+    comes-back cs ds m h b o o′ a l = rw (sym (same-history cs ds m)) (wrap-unwrap K (after K begun cs) h b o a o′ l)

@@ -5,7 +5,6 @@ use native.Mathlib.Omega.{arith}
 use mathlib.Core.Path.{_≡_, refl, sym, ap, _∙_}
 use mathlib.Core.List.{List, [], _∷_, _++_, append-assoc, append-nil}
 use lib.ListN.{length, take, drop, replicate, length-append, length-replicate, length-take}
-use Rattle.keccak.specs.Rounds.{f1600}
 use Rattle.sponge.specs.Pieces.{piece, blocksOf, before}
 use Rattle.sponge.specs.Sponge.{zeros, absorb, sponge}
 use Rattle.sponge.proofs.Padding.{length-padded}
@@ -22,6 +21,7 @@ use Rattle.spongewrap.specs.Refusals.{openRefusal}
 use Rattle.spongewrap.specs.Sessions.{opened as open-settled, opens, cost, advanced, next, sealing, tagOf, recovered, Seen}
 use Rattle.spongewrap.specs.History.{Call, answered, Pair, pairOf, ifAccepted, after, accepted, blanks, pairBlocks, pairsBlocks, history, pairsCost, Whole, output, Output, Told}
 use Rattle.spongewrap.specs.History.Call.{wrapping, unwrapping}
+use Rattle.spongewrap.specs.Kinds.{Kind}
 use Rattle.spongewrap.specs.declared.Session.{Session}
 use Rattle.spongewrap.proofs.Passed.{open-fits, wrap-fits, unwrap-fits}
 use Rattle.spongewrap.proofs.Theorems.{open-number, wrap-number, wrap-kept, unwrap-kept, wrapped-is, unwrapped-is, unwrap-first, accepted-ready, unwrap-accepts-exactly, text-is, mark-is}
@@ -131,125 +131,126 @@ module _ (R : ℕ) (r : 1 < R) where
   whole-pairs t (p ∷ ps) =
       whole-append R _ _ (whole-append R _ _ (whole-append R _ _ (whole-cut 0 1 (p .header)) (whole-cut 1 0 (p .body))) (whole-blanks _)) (whole-pairs t ps)
 
--- ---- a session that stands where the blocks B have been absorbed and n pairs accepted
+module _ (K : Kind) where
+  -- ---- a session that stands where the blocks B have been absorbed and n pairs accepted
 
-record Agrees (R t : ℕ) (B : List (List ℕ)) (n : ℕ) (s : Session) : Type 0 where
-  rate : s .rate ≡ R
-  tag : s .tag ≡ t
-  pairs : s .pairs ≡ n
-  calls : s .calls ≡ length B
-  lanes : s .lanes ≡ sponge 64 f1600 B
+  record Agrees (R t : ℕ) (B : List (List ℕ)) (n : ℕ) (s : Session) : Type 0 where
+    rate : s .rate ≡ R
+    tag : s .tag ≡ t
+    pairs : s .pairs ≡ n
+    calls : s .calls ≡ length B
+    lanes : s .lanes ≡ sponge (K .w) (K .f) B
 
-module _ (R t : ℕ) (B : List (List ℕ)) (n : ℕ) (s : Session) (a : Agrees R t B n s) where
-  next-agrees : (p : Pair) → Agrees R t (B ++ pairBlocks R t p) (n + 1) (next s (p .header) (p .body))
-  unfolding next advanced
-  next-agrees p =
+  module _ (R t : ℕ) (B : List (List ℕ)) (n : ℕ) (s : Session) (a : Agrees R t B n s) where
+    next-agrees : (p : Pair) → Agrees R t (B ++ pairBlocks R t p) (n + 1) (next K s (p .header) (p .body))
+    unfolding next advanced
+    next-agrees p =
+        record {
+          rate = a .rate;
+          tag = a .tag;
+          pairs = ap (λ (x : ℕ). x + 1) (a .pairs);
+          calls = rw (a .rate, a .tag, a .calls, length-append, length-pair);
+          lanes = rw (a .rate, a .tag, a .lanes) (unfold pairBlocks in left-is (K .w) (K .f) R B (p .header) (p .body) t);
+        }
+
+    -- a call that is refused, and one that is accepted
+    call-kept : (c : Call) → (answered K s c .answer .number ≡ 0 → ⊥) → answered K s c .answer .session ≡ s
+    unfolding answered
+    call-kept (wrapping h b o) d = wrap-kept K s h b o d .session
+    call-kept (unwrapping h c u o) d = unwrap-kept K s h c u o d .session
+
+    call-agrees : (c : Call) → answered K s c .answer .number ≡ 0 → Agrees R t (B ++ pairBlocks R t (pairOf K s c)) (n + 1) (answered K s c .answer .session)
+    unfolding answered pairOf
+    call-agrees (wrapping h b o) e = rw (ap (λ (v : Seen). v .answer .session) (wrapped-is K s h b o e)) (next-agrees _)
+    call-agrees (unwrapping h c u o) e =
+        rw (ap (λ (v : Seen). v .answer .session) (unwrapped-is K s h c u o e), unwrap-first K s h c u o e .first) (next-agrees _)
+
+    -- the session's strings are those of the sponge
+    sealing-is : (h b : List ℕ) → sealing K s h b ≡ ciphertext (K .w) (K .f) R (sponge (K .w) (K .f) B) h b
+    unfolding sealing
+    sealing-is h b = rw (a .rate, a .lanes)
+
+    tagOf-is : (h b : List ℕ) → tagOf K s h b ≡ tagged (K .w) (K .f) R (sponge (K .w) (K .f) B) h b t
+    unfolding tagOf
+    tagOf-is h b = rw (a .rate, a .lanes, a .tag)
+
+    recovered-is : (h c : List ℕ) → recovered K s h c ≡ plaintext (K .w) (K .f) R (sponge (K .w) (K .f) B) h c
+    unfolding recovered
+    recovered-is h c = rw (a .rate, a .lanes)
+
+    call-output : (c : Call) → answered K s c .answer .number ≡ 0 → Output (K .w) (K .f) R t B (pairOf K s c)
+    unfolding answered pairOf
+    call-output (wrapping h b o) e =
+        let r = wrap-fits K s (length h) (length b) (length o) (sym (wrap-number K s h b o) ∙ e) .0 .rate in
+        wrap-output (K .w) (K .f) R B h b _ _ t (omega (arith, a .rate, r .most)) (mark-is K s h b o e ∙ tagOf-is h b)
+        (ap length (mark-is K s h b o e) ∙ length-tagOf K s h b r ∙ a .tag) (omega (arith, a .rate, r .room)) (text-is K s h b o e ∙ sealing-is h b)
+    call-output (unwrapping h c u o) e =
+        let y = accepted-ready K s h c u o e in
+        let r = unwrap-fits K s (length h) (length c) (length o) y .0 .rate in
+        let v = unwrap-accepts-exactly K s h c u o y .0 e in
+        rw (unwrap-first K s h c u o e .first)
+        (unwrap-output (K .w) (K .f) R B h (recovered K s h c) c u t (omega (arith, a .rate, r .most)) (v ∙ tagOf-is h (recovered K s h c))
+        (ap length v ∙ length-tagOf K s h (recovered K s h c) r ∙ a .tag) (omega (arith, a .rate, r .room)) (recovered-is h c))
+
+  -- ---- a run of calls
+
+  -- each pair's output, at its point
+  Outputs : ℕ → ℕ → List (List ℕ) → List Pair → Type 0
+  Outputs R t B [] = Unit {0}
+  Outputs R t B (p ∷ ps) = Output (K .w) (K .f) R t B p × Outputs R t (B ++ pairBlocks R t p) ps
+
+  -- what holds where the pairs ps have been accepted since, and the session is s
+  abbrev Ran : ℕ → ℕ → List (List ℕ) → ℕ → List Pair → Session → Type 0
+  Ran R t B n ps s = Agrees R t (B ++ pairsBlocks R t ps) (n + length ps) s × Outputs R t B ps
+
+  run : (R t : ℕ) (B : List (List ℕ)) (n : ℕ) (s : Session) → Agrees R t B n s → (cs : List Call) → Ran R t B n (accepted K s cs) (after K s cs)
+  unfolding accepted ifAccepted after pairsBlocks Outputs
+  run R t B n s a [] = (rw (append-nil, add-zero) a, tt)
+  run R t B n s a (c ∷ cs) = go (λ C m. λ g. run R t C m s′ g cs) (answered K s c .answer .number) refl
+    where
+      s′ : Session
+      s′ = answered K s c .answer .session
+
+      go : ((C : List (List ℕ)) (m : ℕ) → Agrees R t C m s′ → Ran R t C m (accepted K s′ cs) (after K s′ cs))
+          → (m : ℕ) → answered K s c .answer .number ≡ m → Ran R t B n (ifAccepted m (pairOf K s c) ++ accepted K s′ cs) (after K s′ cs)
+      go on zero e =
+          let i = on (B ++ pairBlocks R t (pairOf K s c)) (n + 1) (call-agrees R t B n s a c e) in
+          let k : n + suc (length (accepted K s′ cs)) ≡ n + 1 + length (accepted K s′ cs) = omega arith in
+          (rw (← append-assoc, k) (i .0), (call-output R t B n s a c e, i .1))
+      go on (suc m) e = on B n (rw (call-kept R t B n s a c (λ z. omega arith)) a)
+
+  -- the pair p among others
+  among : (R t : ℕ) (B : List (List ℕ)) (before rest : List Pair) (p : Pair) → Outputs R t B (before ++ p ∷ rest) → Output (K .w) (K .f) R t (B ++ pairsBlocks R t before) p
+  unfolding Outputs pairsBlocks
+  among R t B [] rest p o = rw append-nil (o .0)
+  among R t B (q ∷ before) rest p o = rw (← append-assoc) (among R t (B ++ pairBlocks R t q) before rest p (o .1))
+
+  opened-agrees : (key : List ℕ) (R t m : ℕ) → open-settled K m R t key .number ≡ 0 → Agrees R t (cut R 1 0 key) 0 (open-settled K m R t key .session)
+  unfolding open-settled keyed absorbed
+  opened-agrees key R t zero e =
+      record { rate = refl; tag = refl; pairs = refl; calls = sym (length-cut R 1 0 key); lanes = unfold sponge in refl }
+  opened-agrees key R t (suc m) e = absurd (omega arith)
+
+  -- Demand 3. Whatever calls are made from an opened session, each given the session that the last one handed back: its count is the
+  -- blocks of the key and of each accepted header and body and the extra blocks of tags; exactly that many padded blocks, read off the
+  -- history and absorbed by one plain sponge, leave its lanes; and every keystream piece and tag piece is that sponge's output at its point.
+  pub history-tells : (key : List ℕ) (R t : ℕ) (cs : List Call) → opens K key R t .number ≡ 0
+      → Told K R t key (accepted K (opens K key R t .session) cs) (after K (opens K key R t .session) cs)
+  unfolding history
+  history-tells key R t cs e =
+      let s = opens K key R t .session in
+      let ps = accepted K s cs in
+      let a = run R t (cut R 1 0 key) 0 s (unfold opens in opened-agrees key R t (openRefusal K (length key) R t) e) cs in
+      let r = open-fits K (length key) R t (sym (open-number K key R t) ∙ e) .rates in
+      let n : length (history R t key ps) ≡ blocks R (length key) + pairsCost R t ps =
+      length-append (cut R 1 0 key) (pairsBlocks R t ps) ∙ rw (length-cut, length-pairs) in
       record {
-        rate = a .rate;
-        tag = a .tag;
-        pairs = ap (λ (x : ℕ). x + 1) (a .pairs);
-        calls = rw (a .rate, a .tag, a .calls, length-append, length-pair);
-        lanes = rw (a .rate, a .tag, a .lanes) (unfold pairBlocks in left-is 64 f1600 R B (p .header) (p .body) t);
+        rate = a .0 .rate;
+        tag = a .0 .tag;
+        pairs = a .0 .pairs ∙ zero-add (length ps);
+        count = a .0 .calls ∙ n;
+        blocks-number = sym (a .0 .calls);
+        blocks-whole = whole-append R _ _ (whole-cut R (r .room) 1 0 key) (whole-pairs R (r .room) t ps);
+        state = a .0 .lanes;
+        outputs = λ before rest p q. among R t (cut R 1 0 key) before rest p (rw q at (a .1));
       }
-
-  -- a call that is refused, and one that is accepted
-  call-kept : (c : Call) → (answered s c .answer .number ≡ 0 → ⊥) → answered s c .answer .session ≡ s
-  unfolding answered
-  call-kept (wrapping h b o) d = wrap-kept s h b o d .session
-  call-kept (unwrapping h c u o) d = unwrap-kept s h c u o d .session
-
-  call-agrees : (c : Call) → answered s c .answer .number ≡ 0 → Agrees R t (B ++ pairBlocks R t (pairOf s c)) (n + 1) (answered s c .answer .session)
-  unfolding answered pairOf
-  call-agrees (wrapping h b o) e = rw (ap (λ (v : Seen). v .answer .session) (wrapped-is s h b o e)) (next-agrees _)
-  call-agrees (unwrapping h c u o) e =
-      rw (ap (λ (v : Seen). v .answer .session) (unwrapped-is s h c u o e), unwrap-first s h c u o e .first) (next-agrees _)
-
-  -- the session's strings are those of the sponge
-  sealing-is : (h b : List ℕ) → sealing s h b ≡ ciphertext 64 f1600 R (sponge 64 f1600 B) h b
-  unfolding sealing
-  sealing-is h b = rw (a .rate, a .lanes)
-
-  tagOf-is : (h b : List ℕ) → tagOf s h b ≡ tagged 64 f1600 R (sponge 64 f1600 B) h b t
-  unfolding tagOf
-  tagOf-is h b = rw (a .rate, a .lanes, a .tag)
-
-  recovered-is : (h c : List ℕ) → recovered s h c ≡ plaintext 64 f1600 R (sponge 64 f1600 B) h c
-  unfolding recovered
-  recovered-is h c = rw (a .rate, a .lanes)
-
-  call-output : (c : Call) → answered s c .answer .number ≡ 0 → Output 64 f1600 R t B (pairOf s c)
-  unfolding answered pairOf
-  call-output (wrapping h b o) e =
-      let r = wrap-fits s (length h) (length b) (length o) (sym (wrap-number s h b o) ∙ e) .0 .rate in
-      wrap-output 64 f1600 R B h b _ _ t (omega (arith, a .rate, r .most)) (mark-is s h b o e ∙ tagOf-is h b)
-      (ap length (mark-is s h b o e) ∙ length-tagOf s h b r ∙ a .tag) (omega (arith, a .rate, r .room)) (text-is s h b o e ∙ sealing-is h b)
-  call-output (unwrapping h c u o) e =
-      let y = accepted-ready s h c u o e in
-      let r = unwrap-fits s (length h) (length c) (length o) y .0 .rate in
-      let v = unwrap-accepts-exactly s h c u o y .0 e in
-      rw (unwrap-first s h c u o e .first)
-      (unwrap-output 64 f1600 R B h (recovered s h c) c u t (omega (arith, a .rate, r .most)) (v ∙ tagOf-is h (recovered s h c))
-      (ap length v ∙ length-tagOf s h (recovered s h c) r ∙ a .tag) (omega (arith, a .rate, r .room)) (recovered-is h c))
-
--- ---- a run of calls
-
--- each pair's output, at its point
-Outputs : ℕ → ℕ → List (List ℕ) → List Pair → Type 0
-Outputs R t B [] = Unit {0}
-Outputs R t B (p ∷ ps) = Output 64 f1600 R t B p × Outputs R t (B ++ pairBlocks R t p) ps
-
--- what holds where the pairs ps have been accepted since, and the session is s
-abbrev Ran : ℕ → ℕ → List (List ℕ) → ℕ → List Pair → Session → Type 0
-Ran R t B n ps s = Agrees R t (B ++ pairsBlocks R t ps) (n + length ps) s × Outputs R t B ps
-
-run : (R t : ℕ) (B : List (List ℕ)) (n : ℕ) (s : Session) → Agrees R t B n s → (cs : List Call) → Ran R t B n (accepted s cs) (after s cs)
-unfolding accepted ifAccepted after pairsBlocks Outputs
-run R t B n s a [] = (rw (append-nil, add-zero) a, tt)
-run R t B n s a (c ∷ cs) = go (λ C m. λ g. run R t C m s′ g cs) (answered s c .answer .number) refl
-  where
-    s′ : Session
-    s′ = answered s c .answer .session
-
-    go : ((C : List (List ℕ)) (m : ℕ) → Agrees R t C m s′ → Ran R t C m (accepted s′ cs) (after s′ cs))
-        → (m : ℕ) → answered s c .answer .number ≡ m → Ran R t B n (ifAccepted m (pairOf s c) ++ accepted s′ cs) (after s′ cs)
-    go on zero e =
-        let i = on (B ++ pairBlocks R t (pairOf s c)) (n + 1) (call-agrees R t B n s a c e) in
-        let k : n + suc (length (accepted s′ cs)) ≡ n + 1 + length (accepted s′ cs) = omega arith in
-        (rw (← append-assoc, k) (i .0), (call-output R t B n s a c e, i .1))
-    go on (suc m) e = on B n (rw (call-kept R t B n s a c (λ z. omega arith)) a)
-
--- the pair p among others
-among : (R t : ℕ) (B : List (List ℕ)) (before rest : List Pair) (p : Pair) → Outputs R t B (before ++ p ∷ rest) → Output 64 f1600 R t (B ++ pairsBlocks R t before) p
-unfolding Outputs pairsBlocks
-among R t B [] rest p o = rw append-nil (o .0)
-among R t B (q ∷ before) rest p o = rw (← append-assoc) (among R t (B ++ pairBlocks R t q) before rest p (o .1))
-
-opened-agrees : (key : List ℕ) (R t m : ℕ) → open-settled m R t key .number ≡ 0 → Agrees R t (cut R 1 0 key) 0 (open-settled m R t key .session)
-unfolding open-settled keyed absorbed
-opened-agrees key R t zero e =
-    record { rate = refl; tag = refl; pairs = refl; calls = sym (length-cut R 1 0 key); lanes = unfold sponge in refl }
-opened-agrees key R t (suc m) e = absurd (omega arith)
-
--- Demand 3. Whatever calls are made from an opened session, each given the session that the last one handed back: its count is the
--- blocks of the key and of each accepted header and body and the extra blocks of tags; exactly that many padded blocks, read off the
--- history and absorbed by one plain sponge, leave its lanes; and every keystream piece and tag piece is that sponge's output at its point.
-pub history-tells : (key : List ℕ) (R t : ℕ) (cs : List Call) → opens key R t .number ≡ 0
-    → Told R t key (accepted (opens key R t .session) cs) (after (opens key R t .session) cs)
-unfolding history
-history-tells key R t cs e =
-    let s = opens key R t .session in
-    let ps = accepted s cs in
-    let a = run R t (cut R 1 0 key) 0 s (unfold opens in opened-agrees key R t (openRefusal (length key) R t) e) cs in
-    let r = open-fits (length key) R t (sym (open-number key R t) ∙ e) .rates in
-    let n : length (history R t key ps) ≡ blocks R (length key) + pairsCost R t ps =
-    length-append (cut R 1 0 key) (pairsBlocks R t ps) ∙ rw (length-cut, length-pairs) in
-    record {
-      rate = a .0 .rate;
-      tag = a .0 .tag;
-      pairs = a .0 .pairs ∙ zero-add (length ps);
-      count = a .0 .calls ∙ n;
-      blocks-number = sym (a .0 .calls);
-      blocks-whole = whole-append R _ _ (whole-cut R (r .room) 1 0 key) (whole-pairs R (r .room) t ps);
-      state = a .0 .lanes;
-      outputs = λ before rest p q. among R t (cut R 1 0 key) before rest p (rw q at (a .1));
-    }

@@ -4,8 +4,7 @@ use mathlib.Core.List.{List}
 use Prim.Native.Nat.{ℕ}
 use contract.Lifetimes.{Lfts}
 use denote.Ref.{now}
-use Rattle.spongewrap.specs.Sessions.{Seen, seen, wraps, unwraps}
-use Rattle.spongewrap.specs.declared.Session.{Session}
+use Rattle.spongewrap.specs.Sessions.{Seen, seen}
 use Rattle.spongewrap.specs.declared.Answer.{Answer}
 use Rattle.spongewrap.proofs.Session.open.Reads as default
 use Rattle.spongewrap.proofs.open.Reads as opening
@@ -15,6 +14,13 @@ use Rattle.spongewrap.proofs.refusal.of_open.Reads as of-open
 use Rattle.spongewrap.proofs.refusal.of_session.Reads as of-session
 use Rattle.spongewrap.proofs.refusal.of_wrap.Reads as of-wrap
 use Rattle.spongewrap.proofs.refusal.of_unwrap.Reads as of-unwrap
+use Rattle.spongewrap.proofs.refusal.of_settings.Reads as of-settings
+use Rattle.spongewrap.proofs.refusal.of_own.Reads as of-own
+use Rattle.spongewrap.proofs.refusal.of_pair.Reads as of-pair
+use Rattle.spongewrap.proofs.refusal.bad_size.Reads as bad-size
+use Rattle.spongewrap.proofs.refusal.is_full.Reads as is-full
+use Rattle.spongewrap.proofs.refusal.is_short.Reads as is-short
+use Rattle.spongewrap.proofs.is_same.Reads as is-same
 
 -- what is seen says both its parts
 pub parts : (r r′ : Answer) (o o′ : List ℕ) → seen r o ≡ seen r′ o′ → (r ≡ r′) × (o ≡ o′)
@@ -47,3 +53,24 @@ of-wrap-outcome κs a x y s t e h = e ∙ sym h
 
 pub of-unwrap-outcome : (κs : Lfts 0) (a x y s t : _) → of-unwrap.Post κs a x s → of-unwrap.Post κs a y t → x ≡ y
 of-unwrap-outcome κs a x y s t e h = e ∙ sym h
+
+pub of-settings-outcome : (κs : Lfts 0) (a x y s t : _) → of-settings.Post κs a x s → of-settings.Post κs a y t → x ≡ y
+of-settings-outcome κs a x y s t e h = e ∙ sym h
+
+pub of-own-outcome : (κs : Lfts 0) (a x y s t : _) → of-own.Post κs a x s → of-own.Post κs a y t → x ≡ y
+of-own-outcome κs a x y s t e h = e ∙ sym h
+
+pub of-pair-outcome : (κs : Lfts 0) (a x y s t : _) → of-pair.Post κs a x s → of-pair.Post κs a y t → x ≡ y
+of-pair-outcome κs a x y s t e h = e ∙ sym h
+
+pub bad-size-outcome : (κs : Lfts 0) (a x y s t : _) → bad-size.Post κs a x s → bad-size.Post κs a y t → x ≡ y
+bad-size-outcome κs a x y s t e h = e ∙ sym h
+
+pub is-full-outcome : (κs : Lfts 0) (a x y s t : _) → is-full.Post κs a x s → is-full.Post κs a y t → x ≡ y
+is-full-outcome κs a x y s t e h = e ∙ sym h
+
+pub is-short-outcome : (κs : Lfts 0) (a x y s t : _) → is-short.Post κs a x s → is-short.Post κs a y t → x ≡ y
+is-short-outcome κs a x y s t e h = e ∙ sym h
+
+pub is-same-outcome : (κs : Lfts 2) (a x y s t : _) → is-same.Post κs a x s → is-same.Post κs a y t → x ≡ y
+is-same-outcome κs a x y s t e h = e ∙ sym h

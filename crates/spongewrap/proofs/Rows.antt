@@ -3,8 +3,7 @@ use Prim.Native.Nat.{ℕ, zero, suc}
 use mathlib.Core.Path.{_≡_, refl, sym, _∙_}
 use mathlib.Core.Bool.{Bool, true, false}
 use borrow.Author.Tests.{lt-ltb, le-ltb}
-use Rattle.spongewrap.specs.Refusals.{pick, first, full, standing}
-use Rattle.spongewrap.specs.declared.Session.{Session}
+use Rattle.spongewrap.specs.Refusals.{pick}
 
 pub taken : {t : Bool} (n q : ℕ) → t ≡ true → n ≡ pick t n q
 unfolding pick
@@ -20,8 +19,8 @@ told e h = sym e ∙ h
 
 -- ---- a session's own rows, and then what q the others come to
 
-abbrev pub led : Bool → Bool → Session → ℕ → ℕ
-led rate tag s q = pick rate 1 (pick tag 3 (pick (full (s .pairs) (s .calls)) 7 q))
+abbrev pub led : Bool → Bool → Bool → ℕ → ℕ
+led rate tag full q = pick rate 1 (pick tag 3 (pick full 7 q))
 
 unfoldable pub orElse : ℕ → ℕ → ℕ
 orElse zero q = q
@@ -32,22 +31,22 @@ unfolding pick orElse
 pick-or true n m q = refl
 pick-or false n m q = refl
 
-led-is : (rate tag : Bool) (s : Session) (q : ℕ) → led rate tag s q ≡ orElse (first (standing rate tag s)) q
+led-is : (x y z : Bool) (q : ℕ) → led x y z q ≡ orElse (led x y z 0) q
 unfolding orElse
-led-is rate tag s q = rw (← pick-or rate 0, ← pick-or tag 2, ← pick-or (full (s .pairs) (s .calls)) 6)
+led-is x y z q = rw (← pick-or x 0, ← pick-or y 2, ← pick-or z 6)
 
-module _ (s : Session) {n : ℕ} {x y x′ y′ : Bool} (e : n ≡ first (standing x y s)) (f : x ≡ x′) (g : y ≡ y′) where
-  pub led-stops : (q : ℕ) → (n ≡ 0 → ⊥) → n ≡ led x′ y′ s q
+module _ (x y z : Bool) {n : ℕ} (e : n ≡ led x y z 0) where
+  pub led-stops : (q : ℕ) → (n ≡ 0 → ⊥) → n ≡ led x y z q
   unfolding orElse
-  led-stops q d = rw (← f, ← g, led-is, ← e) (go n d)
+  led-stops q d = rw (led-is, ← e) (go n d)
     where
       go : (m : ℕ) → (m ≡ 0 → ⊥) → m ≡ orElse m q
       go zero h = absurd (h refl)
       go (suc m) h = refl
 
-  pub led-passes : {q r : ℕ} → n ≡ 0 → r ≡ q → r ≡ led x′ y′ s q
+  pub led-passes : {q r : ℕ} → n ≡ 0 → r ≡ q → r ≡ led x y z q
   unfolding orElse
-  led-passes h p = rw (← f, ← g, led-is, ← e, h) p
+  led-passes h p = rw (led-is, ← e, h) p
 
 -- all that an early return asks: `search rows`
 pub ruleset rows = (taken, passed, told, led-stops, led-passes, lt-ltb, le-ltb)

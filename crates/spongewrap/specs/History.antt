@@ -4,13 +4,13 @@ use Prim.Native.Nat.{ℕ, zero, suc, _+_, _-_, _<_}
 use mathlib.Core.Path.{_≡_}
 use mathlib.Core.List.{List, [], _∷_, _++_}
 use lib.ListN.{length, take, drop, replicate}
-use Rattle.keccak.specs.Rounds.{f1600}
 use Rattle.sponge.specs.Bytes.{bytes}
 use Rattle.sponge.specs.Pieces.{piece}
 use Rattle.sponge.specs.Sponge.{sponge}
 use Rattle.duplex.specs.Duplex.{framed}
 use Rattle.duplex.specs.Strings.{blocks, front, cut, xored}
 use Rattle.spongewrap.specs.Sessions.{cost, Seen, wraps, unwraps}
+use Rattle.spongewrap.specs.Kinds.{Kind}
 use Rattle.spongewrap.specs.declared.Session.{Session}
 
 -- ---- the calls
@@ -19,9 +19,9 @@ pub data Call : Type 0 where
   wrapping : (header body out : List ℕ) → Call
   unwrapping : (header cipher tag out : List ℕ) → Call
 
-unfoldable pub answered : Session → Call → Seen
-answered s (wrapping h b o) = wraps s h b o
-answered s (unwrapping h c t o) = unwraps s h c t o
+unfoldable pub answered : Kind → Session → Call → Seen
+answered K s (wrapping h b o) = wraps K s h b o
+answered K s (unwrapping h c t o) = unwraps K s h c t o
 
 -- a pair as it went over: the body is the plaintext
 pub record Pair : Type 0 where
@@ -31,15 +31,15 @@ pub record Pair : Type 0 where
   pub tag : List ℕ
 
 -- what a call on the session s was handed and, at the front of its output, what it gave
-unfoldable pub pairOf : Session → Call → Pair
-pairOf s (wrapping h b o) =
+unfoldable pub pairOf : Kind → Session → Call → Pair
+pairOf K s (wrapping h b o) =
     record {
       header = h;
       body = b;
-      cipher = take (length b) (wraps s h b o .out);
-      tag = take (s .tag) (drop (length b) (wraps s h b o .out));
+      cipher = take (length b) (wraps K s h b o .out);
+      tag = take (s .tag) (drop (length b) (wraps K s h b o .out));
     }
-pairOf s (unwrapping h c t o) = record { header = h; body = take (length c) (unwraps s h c t o .out); cipher = c; tag = t }
+pairOf K s (unwrapping h c t o) = record { header = h; body = take (length c) (unwraps K s h c t o .out); cipher = c; tag = t }
 
 -- what the two ends of a pair have in common
 abbrev pub content : Pair → List ℕ × List ℕ
@@ -51,14 +51,14 @@ ifAccepted (suc n) p = []
 
 -- ---- a run of calls, each given the session that the last one handed back
 
-unfoldable pub after : Session → List Call → Session
-after s [] = s
-after s (c ∷ cs) = after (answered s c .answer .session) cs
+unfoldable pub after : Kind → Session → List Call → Session
+after K s [] = s
+after K s (c ∷ cs) = after K (answered K s c .answer .session) cs
 
 -- the pairs that were accepted
-unfoldable pub accepted : Session → List Call → List Pair
-accepted s [] = []
-accepted s (c ∷ cs) = ifAccepted (answered s c .answer .number) (pairOf s c) ++ accepted (answered s c .answer .session) cs
+unfoldable pub accepted : Kind → Session → List Call → List Pair
+accepted K s [] = []
+accepted K s (c ∷ cs) = ifAccepted (answered K s c .answer .number) (pairOf K s c) ++ accepted K (answered K s c .answer .session) cs
 
 -- ---- the padded blocks of a key and of pairs with tags of t bytes
 
@@ -105,7 +105,7 @@ pub record Output (w : ℕ) (f : List ℕ → List ℕ) (R t : ℕ) (B : List (L
 
 -- ---- demand 3, of a session that stands where a key was absorbed and the pairs ps were accepted
 
-pub record Told (R t : ℕ) (key : List ℕ) (ps : List Pair) (s : Session) : Type 0 where
+pub record Told (K : Kind) (R t : ℕ) (key : List ℕ) (ps : List Pair) (s : Session) : Type 0 where
   -- the settings stay as they were opened
   pub rate : s .rate ≡ R
   pub tag : s .tag ≡ t
@@ -116,6 +116,6 @@ pub record Told (R t : ℕ) (key : List ℕ) (ps : List Pair) (s : Session) : Ty
   pub blocks-number : length (history R t key ps) ≡ s .calls
   pub blocks-whole : Whole R (history R t key ps)
   -- absorbed by the plain sponge they leave the session's lanes
-  pub state : s .lanes ≡ sponge 64 f1600 (history R t key ps)
+  pub state : s .lanes ≡ sponge (K .w) (K .f) (history R t key ps)
   -- whatever went over in any of the pairs is that sponge's output, after the blocks of the pairs before it
-  pub outputs : (before rest : List Pair) (p : Pair) → ps ≡ before ++ p ∷ rest → Output 64 f1600 R t (history R t key before) p
+  pub outputs : (before rest : List Pair) (p : Pair) → ps ≡ before ++ p ∷ rest → Output (K .w) (K .f) R t (history R t key before) p

@@ -3,6 +3,7 @@ use Prim.Native.Nat.{ℕ, _+_}
 use mathlib.Core.List.{List, [], _∷_, _++_}
 use mathlib.Core.Bool.{Bool, true, false, not, _&&_, _||_}
 use lib.Dec.{eqb, ltb, leb}
+use Rattle.spongewrap.specs.Kinds.{Kind}
 use Rattle.spongewrap.specs.declared.Session.{Session}
 
 -- the number of the first row whose test holds; 0, accepted, if none does
@@ -16,9 +17,10 @@ first (row ∷ rows) = pick (row .0) (row .1) (first rows)
 
 -- ---- the clauses
 
--- 1: the rate is not 136 or 168
-abbrev pub badRate : ℕ → Bool
-badRate rate = not (eqb rate 136) && not (eqb rate 168)
+-- 1: the rate is none of the kind's
+abbrev pub badRate : List ℕ → ℕ → Bool
+badRate [] rate = true
+badRate (R ∷ Rs) rate = badRate Rs rate && not (eqb rate R)
 
 -- 2 and 3: a key, or a tag, of under 16 or over 256 bytes
 abbrev pub badSize : ℕ → Bool
@@ -36,9 +38,9 @@ longBody n = ltb 1048576 n
 abbrev pub short : ℕ → ℕ → Bool
 short out n = ltb out n
 
--- 7: 65,535 pairs or more, or a count over 540,991,427
-abbrev pub full : ℕ → ℕ → Bool
-full pairs calls = leb 65535 pairs || ltb 540991427 calls
+-- 7: 65,535 pairs or more, or a count over the kind's ceiling
+abbrev pub full : ℕ → ℕ → ℕ → Bool
+full ceiling pairs calls = leb 65535 pairs || ltb ceiling calls
 
 -- 8: the tag is not the recomputed one. The same bytes:
 unfoldable pub same : List ℕ → List ℕ → Bool
@@ -47,23 +49,31 @@ same [] (y ∷ ys) = false
 same (x ∷ xs) [] = false
 same (x ∷ xs) (y ∷ ys) = eqb x y && same xs ys
 
--- ---- the orders, by the lengths of what is handed over
+-- ---- the orders, by what is found of a session and by the lengths of what is handed over
 
-unfoldable pub openRefusal : ℕ → ℕ → ℕ → ℕ
-openRefusal key rate tag = first ((badRate rate, 1) ∷ (badSize key, 2) ∷ (badSize tag, 3) ∷ [])
+abbrev pub openRows : Bool → ℕ → ℕ → List (Bool × ℕ)
+openRows rate key tag = (rate, 1) ∷ (badSize key, 2) ∷ (badSize tag, 3) ∷ []
 
 -- a session's own rows, which every call that seals or opens has first: its rate, its tag length, its pairs and calls
-abbrev pub standing : Bool → Bool → Session → List (Bool × ℕ)
-standing rate tag s = (rate, 1) ∷ (tag, 3) ∷ (full (s .pairs) (s .calls), 7) ∷ []
+abbrev pub ownRows : Bool → Bool → Bool → List (Bool × ℕ)
+ownRows rate tag full = (rate, 1) ∷ (tag, 3) ∷ (full, 7) ∷ []
 
 -- the rows of a pair: the session's own, those of its header and body, and, last, `room`: the output lacks room
-abbrev pub pairRows : Session → ℕ → ℕ → Bool → List (Bool × ℕ)
-pairRows s header body room =
-    standing (badRate (s .rate)) (badSize (s .tag)) s ++ (longHeader header, 4) ∷ (longBody body, 5) ∷ (room, 6) ∷ []
+abbrev pub pairRows : Bool → Bool → Bool → ℕ → ℕ → Bool → List (Bool × ℕ)
+pairRows rate tag full header body room = ownRows rate tag full ++ (longHeader header, 4) ∷ (longBody body, 5) ∷ (room, 6) ∷ []
 
-unfoldable pub wrapRefusal : Session → ℕ → ℕ → ℕ → ℕ
-wrapRefusal s header body out = first (pairRows s header body (short out (body + s .tag)))
+-- ---- of a kind of session
 
--- `other`: the tag is another than the recomputed one
-unfoldable pub unwrapRefusal : Session → ℕ → ℕ → ℕ → Bool → ℕ
-unwrapRefusal s header body out other = first (pairRows s header body (short out body) ++ (other, 8) ∷ [])
+module _ (K : Kind) where
+  unfoldable pub openRefusal : ℕ → ℕ → ℕ → ℕ
+  openRefusal key rate tag = first (openRows (badRate (K .rates) rate) key tag)
+
+  abbrev pub rowsOf : Session → ℕ → ℕ → Bool → List (Bool × ℕ)
+  rowsOf s = pairRows (badRate (K .rates) (s .rate)) (badSize (s .tag)) (full (K .ceiling) (s .pairs) (s .calls))
+
+  unfoldable pub wrapRefusal : Session → ℕ → ℕ → ℕ → ℕ
+  wrapRefusal s header body out = first (rowsOf s header body (short out (body + s .tag)))
+
+  -- `other`: the tag is another than the recomputed one
+  unfoldable pub unwrapRefusal : Session → ℕ → ℕ → ℕ → Bool → ℕ
+  unwrapRefusal s header body out other = first (rowsOf s header body (short out body) ++ (other, 8) ∷ [])

@@ -3,38 +3,19 @@ use Prim.Native.Nat.{ℕ, zero, suc, _+_, _-_}
 use mathlib.Core.List.{List, _++_}
 use mathlib.Core.Bool.{Bool, not}
 use lib.ListN.{length, drop}
-use Rattle.keccak.specs.Rounds.{f1600}
 use Rattle.sponge.specs.Sponge.{zeros}
 use Rattle.duplex.specs.Strings.{blocks}
 use Rattle.spongewrap.specs.SpongeWrap.{keyed, ciphertext, tagged, left, plaintext}
 use Rattle.spongewrap.specs.Refusals.{openRefusal, wrapRefusal, unwrapRefusal, same}
+use Rattle.spongewrap.specs.Kinds.{Kind}
 use Rattle.spongewrap.specs.declared.Session.{Session}
 use Rattle.spongewrap.specs.declared.Answer.{Answer}
 
--- ---- open
-
--- what an open that states no settings takes
-abbrev pub defaultRate : ℕ
-defaultRate = 136
-
-abbrev pub defaultTag : ℕ
-defaultTag = 16
-
-abbrev pub fresh : ℕ → ℕ → List ℕ → Session
-fresh R t key = record { lanes = keyed 64 f1600 R key; rate = R; tag = t; pairs = 0; calls = blocks R (length key) }
-
+-- the session of zeros, which a refused open gives
 abbrev pub none : Session
 none = record { lanes = zeros; rate = 0; tag = 0; pairs = 0; calls = 0 }
 
--- a refused open gives a session of zeros
-unfoldable pub opened : ℕ → ℕ → ℕ → List ℕ → Answer
-opened zero R t key = record { number = 0; session = fresh R t key }
-opened (suc n) R t key = record { number = suc n; session = none }
-
-unfoldable pub opens : List ℕ → ℕ → ℕ → Answer
-opens key R t = opened (openRefusal (length key) R t) R t key
-
--- ---- an accepted pair
+-- ---- what an accepted pair adds, and what a call leaves
 
 -- the blocks of a header, of a body, and those that a tag takes past its first
 unfoldable pub cost : ℕ → ℕ → ℕ → ℕ → ℕ
@@ -51,22 +32,6 @@ advanced s l header body =
       calls = s .calls + cost (s .rate) (s .tag) header body;
     }
 
-unfoldable pub next : Session → List ℕ → List ℕ → Session
-next s h b = advanced s (left 64 f1600 (s .rate) (s .lanes) h b (s .tag)) (length h) (length b)
-
--- what a pair is sealed to, the ciphertext and the tag; and the tag alone
-unfoldable pub sealing : Session → List ℕ → List ℕ → List ℕ
-sealing s h b = ciphertext 64 f1600 (s .rate) (s .lanes) h b
-
-unfoldable pub tagOf : Session → List ℕ → List ℕ → List ℕ
-tagOf s h b = tagged 64 f1600 (s .rate) (s .lanes) h b (s .tag)
-
--- the body of a ciphertext
-unfoldable pub recovered : Session → List ℕ → List ℕ → List ℕ
-recovered s h c = plaintext 64 f1600 (s .rate) (s .lanes) h c
-
--- ---- wrap and unwrap
-
 -- what is seen of a call: its answer, and the lent output as it is left
 pub record Seen : Type 0 where
   pub answer : Answer
@@ -80,15 +45,46 @@ unfoldable pub settled : ℕ → Session → List ℕ → Session → List ℕ �
 settled zero s o s′ x = seen (record { number = 0; session = s′ }) (x ++ drop (length x) o)
 settled (suc n) s o s′ x = seen (record { number = suc n; session = s }) o
 
-unfoldable pub wraps : Session → List ℕ → List ℕ → List ℕ → Seen
-wraps s h b o =
-    settled (wrapRefusal s (length h) (length b) (length o)) s o (next s h b) (sealing s h b ++ tagOf s h b)
+module _ (K : Kind) where
+  -- ---- open
 
--- the tag t is another than the recomputed one
-unfoldable pub foreign : Session → List ℕ → List ℕ → List ℕ → Bool
-foreign s h c t = not (same t (tagOf s h (recovered s h c)))
+  abbrev pub fresh : ℕ → ℕ → List ℕ → Session
+  fresh R t key = record { lanes = keyed (K .w) (K .f) R key; rate = R; tag = t; pairs = 0; calls = blocks R (length key) }
 
-unfoldable pub unwraps : Session → List ℕ → List ℕ → List ℕ → List ℕ → Seen
-unwraps s h c t o =
-    settled (unwrapRefusal s (length h) (length c) (length o) (foreign s h c t)) s o
-    (next s h (recovered s h c)) (recovered s h c)
+  unfoldable pub opened : ℕ → ℕ → ℕ → List ℕ → Answer
+  opened zero R t key = record { number = 0; session = fresh R t key }
+  opened (suc n) R t key = record { number = suc n; session = none }
+
+  unfoldable pub opens : List ℕ → ℕ → ℕ → Answer
+  opens key R t = opened (openRefusal K (length key) R t) R t key
+
+  -- ---- an accepted pair
+
+  unfoldable pub next : Session → List ℕ → List ℕ → Session
+  next s h b = advanced s (left (K .w) (K .f) (s .rate) (s .lanes) h b (s .tag)) (length h) (length b)
+
+  -- what a pair is sealed to, the ciphertext and the tag; and the tag alone
+  unfoldable pub sealing : Session → List ℕ → List ℕ → List ℕ
+  sealing s h b = ciphertext (K .w) (K .f) (s .rate) (s .lanes) h b
+
+  unfoldable pub tagOf : Session → List ℕ → List ℕ → List ℕ
+  tagOf s h b = tagged (K .w) (K .f) (s .rate) (s .lanes) h b (s .tag)
+
+  -- the body of a ciphertext
+  unfoldable pub recovered : Session → List ℕ → List ℕ → List ℕ
+  recovered s h c = plaintext (K .w) (K .f) (s .rate) (s .lanes) h c
+
+  -- ---- wrap and unwrap
+
+  unfoldable pub wraps : Session → List ℕ → List ℕ → List ℕ → Seen
+  wraps s h b o =
+      settled (wrapRefusal K s (length h) (length b) (length o)) s o (next s h b) (sealing s h b ++ tagOf s h b)
+
+  -- the tag t is another than the recomputed one
+  unfoldable pub foreign : Session → List ℕ → List ℕ → List ℕ → Bool
+  foreign s h c t = not (same t (tagOf s h (recovered s h c)))
+
+  unfoldable pub unwraps : Session → List ℕ → List ℕ → List ℕ → List ℕ → Seen
+  unwraps s h c t o =
+      settled (unwrapRefusal K s (length h) (length c) (length o) (foreign s h c t)) s o
+      (next s h (recovered s h c)) (recovered s h c)

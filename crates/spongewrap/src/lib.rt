@@ -11,7 +11,8 @@ ghost use Rattle.duplex.specs.Duplex.{Rate, drawn, after};
 ghost use Rattle.duplex.specs.Strings.{blocks, absorbed, sealed};
 ghost use Rattle.spongewrap.specs.SpongeWrap.{headed};
 ghost use Rattle.spongewrap.specs.Refusals.{same};
-ghost use Rattle.spongewrap.specs.Sessions.{defaultRate, defaultTag, none, opens, advanced, wraps, unwraps, seen};
+ghost use Rattle.spongewrap.specs.Sessions.{none, opens, advanced, wraps, unwraps, seen};
+ghost use Rattle.spongewrap.specs.Desk.{desk, defaultRate, defaultTag};
 
 // What a session is: the state, its settings, and how many pairs and permutation calls brought it here.
 pub struct Session {
@@ -36,7 +37,7 @@ impl Session {
 
     // A session from a key, with the default settings.
     pub fn open(key: &[u8]) -> Answer
-        ensures { λ r. ⌜ r ≡ opens (now (key .entry)) defaultRate defaultTag ⌝ }
+        ensures { λ r. ⌜ r ≡ opens desk (now (key .entry)) defaultRate defaultTag ⌝ }
     {
         open(key, Session::RATE, Session::TAG)
     }
@@ -44,7 +45,7 @@ impl Session {
 
 // A session from a key, a rate and a tag length. A refused open gives a session of zeros.
 pub fn open(key: &[u8], rate: u16, tag: u16) -> Answer
-    ensures { λ r. ⌜ r ≡ opens (now (key .entry)) rate tag ⌝ }
+    ensures { λ r. ⌜ r ≡ opens desk (now (key .entry)) rate tag ⌝ }
 {
     let number = refusal::of_open(key.len(), rate, tag);
     if number != 0 {
@@ -107,7 +108,7 @@ fn advanced(s: Session, lanes: [u64; 25], header: usize, body: usize) -> Session
 
 // The state that a header leaves. Its frame bits are those of a key or a body the other way round.
 fn headed(a: [u64; 25], header: &[u8], rate: usize) -> [u64; 25]
-    requires { ⌜ Rate rate ⌝ }
+    requires { ⌜ Rate 64 rate ⌝ }
     ensures { λ r. ⌜ r ≡ headed 64 f1600 rate a (now (header .entry)) ⌝ }
 {
     duplex::absorbed(a, header, 0, 1, rate)
@@ -115,7 +116,7 @@ fn headed(a: [u64; 25], header: &[u8], rate: usize) -> [u64; 25]
 
 // The ciphertext of a body, then a tag of n bytes, from the state that the header left.
 fn seal_pair(a: [u64; 25], body: &[u8], n: usize, rate: usize, out: &mut [u8]) -> [u64; 25]
-    requires { ⌜ Rate rate × (length (now body) + n ≤ length (now out)) ⌝ }
+    requires { ⌜ Rate 64 rate × (length (now body) + n ≤ length (now out)) ⌝ }
     ensures { λ r. ⌜ (r ≡ after 64 f1600 rate (absorbed 64 f1600 rate a 1 0 (now (body .entry))) n) × (now (out .exit) ≡ (sealed 64 f1600 rate a (now (body .entry)) ++ drawn 64 f1600 rate (absorbed 64 f1600 rate a 1 0 (now (body .entry))) n) ++ drop (length (now (body .entry)) + n) (now (out .entry))) ⌝ }
 {
     let at = body.len();
@@ -126,7 +127,7 @@ fn seal_pair(a: [u64; 25], body: &[u8], n: usize, rate: usize, out: &mut [u8]) -
 
 // Seals a pair: the ciphertext and then the tag go to the first bytes of `out`.
 pub fn wrap(s: Session, header: &[u8], body: &[u8], out: &mut [u8]) -> Answer
-    ensures { λ r. ⌜ seen r (now (out .exit)) ≡ wraps s (now (header .entry)) (now (body .entry)) (now (out .entry)) ⌝ }
+    ensures { λ r. ⌜ seen r (now (out .exit)) ≡ wraps desk s (now (header .entry)) (now (body .entry)) (now (out .entry)) ⌝ }
 {
     let number = refusal::of_wrap(s, header.len(), body.len(), out.len());
     if number != 0 {
@@ -141,7 +142,7 @@ pub fn wrap(s: Session, header: &[u8], body: &[u8], out: &mut [u8]) -> Answer
 }
 
 // Whether two strings are the same. Where their lengths are, the time does not go by where they differ.
-fn is_same(x: &[u8], y: &[u8]) -> bool
+pub fn is_same(x: &[u8], y: &[u8]) -> bool
     ensures { λ r. ⌜ r ≡ same (now (x .entry)) (now (y .entry)) ⌝ }
 {
     if x.len() != y.len() {
@@ -172,7 +173,7 @@ struct Checked {
 
 // Whether `tag` is the tag of n bytes that the state `a` gives.
 fn check_tag(a: [u64; 25], tag: &[u8], n: usize, rate: usize) -> Checked
-    requires { ⌜ Rate rate × (n ≤ 256) ⌝ }
+    requires { ⌜ Rate 64 rate × (n ≤ 256) ⌝ }
     ensures { λ r. ⌜ (r .right ≡ same (now (tag .entry)) (drawn 64 f1600 rate a n)) × (r .lanes ≡ after 64 f1600 rate a n) ⌝ }
 {
     let mut due = [0u8; 256];
@@ -184,7 +185,7 @@ fn check_tag(a: [u64; 25], tag: &[u8], n: usize, rate: usize) -> Checked
 // Opens a pair: the body goes to the first bytes of `out`, once the tag has been found right.
 // The first pass over the ciphertext writes nothing, so a wrong tag releases nothing.
 pub fn unwrap(s: Session, header: &[u8], cipher: &[u8], tag: &[u8], out: &mut [u8]) -> Answer
-    ensures { λ r. ⌜ seen r (now (out .exit)) ≡ unwraps s (now (header .entry)) (now (cipher .entry)) (now (tag .entry)) (now (out .entry)) ⌝ }
+    ensures { λ r. ⌜ seen r (now (out .exit)) ≡ unwraps desk s (now (header .entry)) (now (cipher .entry)) (now (tag .entry)) (now (out .entry)) ⌝ }
 {
     let number = refusal::of_unwrap(s, header.len(), cipher.len(), out.len());
     if number != 0 {

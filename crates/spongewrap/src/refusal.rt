@@ -2,7 +2,8 @@
 ghost use mathlib.Core.Path.{_≡_};
 ghost use mathlib.Core.Bool.{false};
 ghost use Prim.Native.Nat.{_+_};
-ghost use Rattle.spongewrap.specs.Refusals.{first, standing, badRate, badSize, full, short, pairRows, openRefusal, wrapRefusal, unwrapRefusal};
+ghost use Rattle.spongewrap.specs.Refusals.{first, badRate, badSize, full, short, openRows, ownRows, pairRows, openRefusal, wrapRefusal, unwrapRefusal};
+ghost use Rattle.spongewrap.specs.Desk.{desk};
 use crate::Session;
 
 pub const RATE: u8 = 1;
@@ -30,26 +31,26 @@ const MOST_PAIRS: u32 = 65_535;
 const MOST_CALLS: u64 = 540_991_427;
 
 fn bad_rate(rate: u16) -> bool
-    ensures { λ r. ⌜ r ≡ badRate rate ⌝ }
+    ensures { λ r. ⌜ r ≡ badRate (desk .rates) rate ⌝ }
 {
-    rate != 136 && rate != 168
+    rate != 168 && rate != 136
 }
 
 // A key's or a tag's length.
-fn bad_size(n: usize) -> bool
+pub fn bad_size(n: usize) -> bool
     ensures { λ r. ⌜ r ≡ badSize n ⌝ }
 {
     n < 16 || 256 < n
 }
 
-fn is_full(pairs: u32, calls: u64) -> bool
-    ensures { λ r. ⌜ r ≡ full pairs calls ⌝ }
+pub fn is_full(pairs: u32, calls: u64, ceiling: u64) -> bool
+    ensures { λ r. ⌜ r ≡ full ceiling pairs calls ⌝ }
 {
-    MOST_PAIRS <= pairs || MOST_CALLS < calls
+    MOST_PAIRS <= pairs || ceiling < calls
 }
 
 // Whether an output lacks room for a body and a tag. Their sum could wrap, so it is not made.
-fn is_short(out: usize, body: usize, tag: usize) -> bool
+pub fn is_short(out: usize, body: usize, tag: usize) -> bool
     ensures { λ r. ⌜ r ≡ short out (body + tag) ⌝ }
 {
     if out < body {
@@ -58,24 +59,27 @@ fn is_short(out: usize, body: usize, tag: usize) -> bool
     out - body < tag
 }
 
-pub fn of_open(key: usize, rate: u16, tag: u16) -> u8
-    ensures { λ r. ⌜ r ≡ openRefusal key rate tag ⌝ }
+// ---- the rows in their order, for sessions of any kind
+
+// The rows of an open; `rate` says that its rate is bad.
+pub fn of_settings(rate: bool, key: usize, tag: usize) -> u8
+    ensures { λ r. ⌜ r ≡ first (openRows rate key tag) ⌝ }
 {
-    if bad_rate(rate) {
+    if rate {
         return RATE;
     }
     if bad_size(key) {
         return KEY;
     }
-    if bad_size(tag as usize) {
+    if bad_size(tag) {
         return TAG_LENGTH;
     }
     0
 }
 
-// A session's own rows, with what its user says of its rate and its tag length.
-pub fn of_session(s: Session, rate: bool, tag: bool) -> u8
-    ensures { λ r. ⌜ r ≡ first (standing rate tag s) ⌝ }
+// A session's own rows, by what is found of its rate, of its tag length, and of its pairs and calls.
+pub fn of_own(rate: bool, tag: bool, full: bool) -> u8
+    ensures { λ r. ⌜ r ≡ first (ownRows rate tag full) ⌝ }
 {
     if rate {
         return RATE;
@@ -83,17 +87,17 @@ pub fn of_session(s: Session, rate: bool, tag: bool) -> u8
     if tag {
         return TAG_LENGTH;
     }
-    if is_full(s.pairs, s.calls) {
+    if full {
         return FULL;
     }
     0
 }
 
 // The rows of a pair; `short` says that the output lacks room.
-fn of_pair(s: Session, header: usize, body: usize, short: bool) -> u8
-    ensures { λ r. ⌜ r ≡ first (pairRows s header body short) ⌝ }
+pub fn of_pair(rate: bool, tag: bool, full: bool, header: usize, body: usize, short: bool) -> u8
+    ensures { λ r. ⌜ r ≡ first (pairRows rate tag full header body short) ⌝ }
 {
-    let n = of_session(s, bad_rate(s.rate), bad_size(s.tag as usize));
+    let n = of_own(rate, tag, full);
     if n != 0 {
         return n;
     }
@@ -109,15 +113,47 @@ fn of_pair(s: Session, header: usize, body: usize, short: bool) -> u8
     0
 }
 
-pub fn of_wrap(s: Session, header: usize, body: usize, out: usize) -> u8
-    ensures { λ r. ⌜ r ≡ wrapRefusal s header body out ⌝ }
+// ---- of the desk's sessions
+
+pub fn of_open(key: usize, rate: u16, tag: u16) -> u8
+    ensures { λ r. ⌜ r ≡ openRefusal desk key rate tag ⌝ }
 {
-    of_pair(s, header, body, is_short(out, body, s.tag as usize))
+    of_settings(bad_rate(rate), key, tag as usize)
+}
+
+// A session's own rows, with what its user says of its rate and its tag length.
+pub fn of_session(s: Session, rate: bool, tag: bool) -> u8
+    ensures { λ r. ⌜ r ≡ first (ownRows rate tag (full (desk .ceiling) (s .pairs) (s .calls))) ⌝ }
+{
+    of_own(rate, tag, is_full(s.pairs, s.calls, MOST_CALLS))
+}
+
+pub fn of_wrap(s: Session, header: usize, body: usize, out: usize) -> u8
+    ensures { λ r. ⌜ r ≡ wrapRefusal desk s header body out ⌝ }
+{
+    let tag = s.tag as usize;
+    let full = is_full(s.pairs, s.calls, MOST_CALLS);
+    of_pair(
+        bad_rate(s.rate),
+        bad_size(tag),
+        full,
+        header,
+        body,
+        is_short(out, body, tag),
+    )
 }
 
 // The rows of an unwrap that come before its tag's.
 pub fn of_unwrap(s: Session, header: usize, body: usize, out: usize) -> u8
-    ensures { λ r. ⌜ r ≡ unwrapRefusal s header body out false ⌝ }
+    ensures { λ r. ⌜ r ≡ unwrapRefusal desk s header body out false ⌝ }
 {
-    of_pair(s, header, body, out < body)
+    let full = is_full(s.pairs, s.calls, MOST_CALLS);
+    of_pair(
+        bad_rate(s.rate),
+        bad_size(s.tag as usize),
+        full,
+        header,
+        body,
+        out < body,
+    )
 }

@@ -40,6 +40,7 @@ use denote.Triple.Spec.{Meets, tripleOf}
 use denote.Triple.Table.{entered, cited}
 use denote.Triple.Walked.{says, Stays, stay-none, stay-none-slice, gave-slice, walkOf, AllGo, goes-none, goes-none-slice, goes-gave-slice, Walks, ends-at, walked, walk-meets}
 use denote.Exit.{yes}
+use Rattle.spongewrap.specs.Desk.{desk}
 use Rattle.spongewrap.specs.Sessions.{seen, unwraps}
 use Rattle.spongewrap.specs.declared.Session.{Session}
 use Rattle.spongewrap.proofs.Session as T
@@ -124,7 +125,7 @@ module _ {M : Type 1} (𝓤 : URA M) (H : Heap 𝓤) (A : Atoms 𝓤) (W : Given
 
   -- what the callee ensures of its answer, of the last session and of the last list
   abbrev Told : ℕ → Session → List ℕ → Type 0
-  Told r z l = seen (answer r z) l ≡ unwraps h (header .now) (cipher .now) (tag .now) (out .now)
+  Told r z l = seen (answer r z) l ≡ unwraps desk h (header .now) (cipher .now) (tag .now) (out .now)
 
   exits : (r : ℕ) (z : Session) (l : List ℕ) → Told r z l → length l ≡ length (out .now) → r < 2 ^ 8 → Is T.the-row z (vals z)
       → ent 𝓤 (⋆ 𝓤 H A ((‵ (flft κ₁ q₁) ⊛ ‵ (flft κ₂ q₂) ⊛ ‵ (flft κ₃ q₃) ⊛ ‵ (flft κ₄ q₄) ⊛ ‵ ftrue) ∷ ‵ (finally u8 (out .name) l) ∷ (‵ O-header ⊛ ‵ O-cipher ⊛ ‵ O-tag) ∷ [])) (Post (LL.val D.the-type D′.the-laws (answer r z)))

@@ -39,6 +39,7 @@ use denote.Triple.Spec.{Meets, tripleOf}
 use denote.Triple.Table.{entered, cited}
 use denote.Triple.Walked.{says, Stays, stay-ref, stay-none-slice, gave-slice, walkOf, AllGo, goes-ref, goes-none-slice, goes-gave-slice, Walks, ends-at, walked, walk-meets}
 use denote.Exit.{yes}
+use Rattle.spongewrap.specs.Desk.{desk}
 use Rattle.spongewrap.specs.Sessions.{seen, wraps}
 use Rattle.spongewrap.specs.declared.Session.{Session}
 use Rattle.spongewrap.specs.declared.Answer.{Answer}
@@ -105,7 +106,7 @@ module _ {M : Type 1} (𝓤 : URA M) (H : Heap 𝓤) (A : Atoms 𝓤) (W : Given
 
   -- what the callee ensures of its answer and of the last lists
   abbrev Told : Answer → List ℕ → Type 0
-  Told r last-out = seen r last-out ≡ wraps h (header .now) (body .now) (out .now)
+  Told r last-out = seen r last-out ≡ wraps desk h (header .now) (body .now) (out .now)
 
   exits : (r : Answer) (last-out : List ℕ) → Told r last-out → length last-out ≡ length (out .now) → r .number < 2 ^ 8
       → ent 𝓤 (⋆ 𝓤 H A (‵ (fobs γ (T.the-row .coded .code (r .session))) ∷ ‵ (fbor κ (Body (mem T.the-row) b o γ)) ∷ ‵ (flft κ q) ∷ (‵ (flft κ₁ q₁) ⊛ ‵ (flft κ₂ q₂) ⊛ ‵ (flft κ₃ q₃) ⊛ ‵ ftrue) ∷ ‵ (finally u8 (out .name) last-out) ∷ (‵ O-header ⊛ ‵ O-body) ∷ [])) (Post (vint w8 (r .number)))

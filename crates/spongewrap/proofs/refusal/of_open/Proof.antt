@@ -1,18 +1,12 @@
--- Each early return takes its row, and the tests before it passed theirs.
+-- The rows of an open, with what is found of its rate.
 use borrow.Author.Needs.{needs}
-use Rattle.spongewrap.specs.Refusals.{openRefusal}
-use Rattle.spongewrap.proofs.Rows.{rows}
+use Rattle.spongewrap.specs.Refusals.{pick, openRefusal}
 use Rattle.spongewrap.proofs.refusal.of_open.Statement.{statement}
 use Rattle.spongewrap.proofs.refusal.of_open.Tie as tie
 
+returns : tie.Need-returns
+unfolding openRefusal pick
+returns c = cc
+
 pub of-open-spec : {M : Type 1} → statement M
-of-open-spec =
-    tie.close
-    (tie.spec
-    (λ c κs. search needs)
-    (λ c. unfold openRefusal in search rows)
-    (λ c κs. search needs)
-    (λ c. unfold openRefusal in search rows)
-    (λ c κs. search needs)
-    (λ c. unfold openRefusal in search rows)
-    (λ c. unfold openRefusal in search rows))
+of-open-spec = tie.close (tie.spec (λ c κs. search needs) (λ c κs. search needs) returns)

@@ -9,9 +9,6 @@ of-pair-spec =
     tie.close
     (tie.spec
     (λ c κs. search needs)
-    (λ c. search needs)
-    (λ c κs. search needs)
-    (λ c κs. search needs)
     (λ c. search rows)
     (λ c. search rows)
     (λ c. search rows)

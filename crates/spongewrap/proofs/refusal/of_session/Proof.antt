@@ -1,15 +1,12 @@
--- Each early return takes its row, and the tests before it passed theirs.
+-- A session's own rows, with what is found of its pairs and calls.
 use borrow.Author.Needs.{needs}
-use Rattle.spongewrap.proofs.Rows.{rows}
+use Rattle.spongewrap.specs.Refusals.{pick}
 use Rattle.spongewrap.proofs.refusal.of_session.Statement.{statement}
 use Rattle.spongewrap.proofs.refusal.of_session.Tie as tie
 
+returns : tie.Need-returns
+unfolding pick
+returns c = cc
+
 pub of-session-spec : {M : Type 1} → statement M
-of-session-spec =
-    tie.close
-    (tie.spec
-    (λ c. search rows)
-    (λ c. search rows)
-    (λ c κs. search needs)
-    (λ c. search rows)
-    (λ c. search rows))
+of-session-spec = tie.close (tie.spec (λ c κs. search needs) (λ c κs. search needs) returns)

@@ -9,4 +9,12 @@ unfolding unwrapRefusal pick
 returns c = cc
 
 pub of-unwrap-spec : {M : Type 1} → statement M
-of-unwrap-spec = tie.close (tie.spec (λ c κs. search needs) returns)
+of-unwrap-spec =
+    tie.close
+    (tie.spec
+    (λ c κs. search needs)
+    (λ c κs. search needs)
+    (λ c. search needs)
+    (λ c κs. search needs)
+    (λ c κs. search needs)
+    returns)

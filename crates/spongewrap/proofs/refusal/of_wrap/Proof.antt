@@ -9,4 +9,13 @@ unfolding wrapRefusal pick
 returns c = cc
 
 pub of-wrap-spec : {M : Type 1} → statement M
-of-wrap-spec = tie.close (tie.spec (λ c. search needs) (λ c κs. search needs) (λ c κs. search needs) returns)
+of-wrap-spec =
+    tie.close
+    (tie.spec
+    (λ c. search needs)
+    (λ c κs. search needs)
+    (λ c κs. search needs)
+    (λ c κs. search needs)
+    (λ c κs. search needs)
+    (λ c κs. search needs)
+    returns)
