@@ -10,14 +10,15 @@ use lib.Dec.{eqb, ltb}
 use borrow.Author.Tests.{lt-ltb, le-ltb, ltb-false, ne-eqb}
 use denote.Enum.Declared.{tagOf}
 use Rattle.fields.specs.Numbers.{numberAt}
-use Rattle.spongewrap.specs.Refusals.{pick, longBody}
+use Rattle.refusal.specs.Rows.{pick}
+use Rattle.spongewrap.specs.Refusals.{longBody}
 use Rattle.bundle.proofs.Entry.{the-type}
 use Rattle.bundle.specs.declared.Entry.{Entry}
 use Rattle.bundle.specs.declared.Entry.the-variants.{Whole, Short, Large, Past}
 use Rattle.bundle.specs.Format.{most, headerLength, bodyLength, nextAt, choose, entryAt}
 use Rattle.bundle.specs.Answers.{Told, refused, accepted, by, _orElse_, entryTold}
 use Rattle.bundle.specs.Survey.{unlabelled, last, walk, entriesFrom, surveys}
-use Rattle.spongewrap.proofs.Rows.{taken, passed}
+use Rattle.refusal.proofs.Rows.{taken, passed}
 use Rattle.bundle.proofs.Tables.{stops-at, goes, same, found-other, found-same}
 
 -- ---- the rules
@@ -132,7 +133,7 @@ module _ (T : ℕ) (b : List ℕ) (k : ℕ) (e : Entry) (t : Bool) (g : e ≡ en
 -- ---- the survey, past its first rows
 
 module _ (T : ℕ) (b : List ℕ) (some : length b ≡ 0 → ⊥) (fits : ltb most (length b) ≡ false) (one : getD b 0 0 ≡ 1) where
-  first-rows : 0 ≡ pick (eqb (length b) 0) 9 (pick (ltb most (length b)) 9 (pick (not (eqb (getD b 0 0) 1)) 10 0))
+  first-rows : 0 ≡ pick {A = ℕ} (eqb (length b) 0) 9 (pick (ltb most (length b)) 9 (pick (not (eqb (getD b 0 0) 1)) 10 0))
   first-rows = passed 9 (ne-eqb _ _ some) (passed 9 fits (passed 10 (same _ _ one) refl))
 
   pub survey-under : length b < 5 → refused 9 1 ≡ surveys T b

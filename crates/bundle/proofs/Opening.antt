@@ -7,7 +7,8 @@ use mathlib.Core.Bool.{false}
 use lib.ListN.{length, take, drop, length-drop}
 use lib.Seq.{length-take-le}
 use Rattle.spongewrap.specs.Desk.{desk}
-use Rattle.spongewrap.specs.Refusals.{pick, first, badSize, short}
+use Rattle.refusal.specs.Rows.{pick, first, short}
+use Rattle.spongewrap.specs.Refusals.{badSize}
 use Rattle.spongewrap.specs.Sessions.{foreign, unwraps, Seen as Unwrapped, seen as unwrap-seen}
 use Rattle.spongewrap.specs.declared.Session.{Session}
 use Rattle.spongewrap.specs.declared.Answer.{Answer as Unwrap}

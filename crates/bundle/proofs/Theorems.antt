@@ -12,10 +12,11 @@ use Rattle.fields.specs.Numbers.{bytesOf}
 use Rattle.fields.proofs.Stores.{getD-sets-before, getD-sets-after}
 use Rattle.fields.proofs.Numbers.{length-bytesOf}
 use Rattle.spongewrap.specs.Desk.{desk}
-use Rattle.spongewrap.specs.Refusals.{first, badSize, short}
+use Rattle.refusal.specs.Rows.{first, short}
+use Rattle.spongewrap.specs.Refusals.{badSize}
 use Rattle.spongewrap.specs.Sessions.{next, tagOf, foreign}
 use Rattle.spongewrap.specs.declared.Session.{Session}
-use Rattle.spongewrap.proofs.Same.{same-eq}
+use Rattle.compare.proofs.Same.{same-eq}
 use Rattle.bundle.specs.declared.Entry.{Entry}
 use Rattle.bundle.specs.declared.Entry.the-variants.{Whole, Short, Large, Past}
 use Rattle.bundle.specs.Format.{entryOf, bodyLength, headerAt, tagAt, nextAt, entryAt}

@@ -4,7 +4,8 @@ use mathlib.Core.List.{List, [], _∷_}
 use mathlib.Core.Bool.{Bool, not}
 use lib.Dec.{eqb}
 use Rattle.spongewrap.specs.Desk.{desk}
-use Rattle.spongewrap.specs.Refusals.{first, full, ownRows}
+use Rattle.refusal.specs.Rows.{first}
+use Rattle.spongewrap.specs.Refusals.{full, ownRows}
 use Rattle.spongewrap.specs.declared.Session.{Session}
 use Rattle.bundle.specs.declared.Entry.{Entry}
 use Rattle.bundle.specs.declared.Entry.the-variants.{Whole, Short, Large, Past}

@@ -3,7 +3,7 @@ use Prim.Native.Nat.{ℕ}
 use mathlib.Core.List.{List, [], _∷_, _++_}
 use lib.ListN.{length, drop}
 use Rattle.spongewrap.specs.Desk.{desk}
-use Rattle.spongewrap.specs.Refusals.{short}
+use Rattle.refusal.specs.Rows.{short}
 use Rattle.spongewrap.specs.Sessions.{next, recovered, foreign}
 use Rattle.spongewrap.specs.declared.Session.{Session}
 use Rattle.bundle.specs.Format.{bodyLength, headerAt, cipherAt, tagAt, nextAt, entryAt}

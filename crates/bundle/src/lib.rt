@@ -4,7 +4,7 @@ ghost use mathlib.Core.Path.{_≡_};
 ghost use Prim.Native.Nat.{_+_, _≤_};
 ghost use lib.ListN.{length};
 ghost use lib.Seq.{sets};
-ghost use Rattle.spongewrap.specs.Refusals.{first};
+ghost use Rattle.refusal.specs.Rows.{first};
 ghost use Rattle.spongewrap.specs.Sessions.{cost, next};
 ghost use Rattle.spongewrap.specs.Desk.{desk};
 ghost use Rattle.bundle.specs.Format.{bundleRate, tagLength, entryOf, size, entryAt, badLabel};
@@ -13,7 +13,7 @@ ghost use Rattle.bundle.specs.Survey.{unlabelled, entriesFrom, surveys};
 ghost use Rattle.bundle.specs.Opening.{opens};
 ghost use Rattle.bundle.specs.Writing.{Ready, startTable, starts, endOf, bufferTable, addTable, adds};
 use spongewrap::Session;
-use spongewrap::refusal;
+use spongewrap::orders;
 
 // The format's own refusal numbers; the others are spongewrap's.
 pub const MALFORMED: u8 = 9;
@@ -95,7 +95,7 @@ pub fn entry_at(bundle: &[u8], place: usize) -> Entry
     }
     let header = fields::read_u16(bundle, place) as usize;
     let body = fields::read_u32(bundle, place + 2) as usize;
-    if refusal::MOST_BODY < body {
+    if orders::MOST_BODY < body {
         return Entry::Large;
     }
     let size = entry_size(header, body);
@@ -255,7 +255,7 @@ fn answered(number: u8, place: usize, session: Session) -> Answer
 fn own_refusal(s: Session) -> u8
     ensures { λ r. ⌜ r ≡ first (own tagLength s) ⌝ }
 {
-    refusal::of_session(s, s.rate != RATE, s.tag as usize != TAG)
+    orders::of_session(s, s.rate != RATE, s.tag as usize != TAG)
 }
 
 // Opens the entry at a place: its body goes to the first bytes of `out`, and the answer's place is the next entry's.
@@ -318,7 +318,7 @@ fn start_refusal(s: Session, label: usize, room: usize) -> u8
         return NO_LABEL;
     }
     if room < FIRST + entry_size(label, 0) {
-        return refusal::ROOM;
+        return refusal::NO_ROOM;
     }
     0
 }
@@ -353,15 +353,15 @@ fn add_refusal(s: Session, bundle: &[u8], header: usize, body: usize) -> Refusal
     if number != 0 {
         return Refusal { number, place: 0 };
     }
-    if refusal::MOST_HEADER < header {
+    if orders::MOST_HEADER < header {
         return Refusal {
-            number: refusal::HEADER,
+            number: refusal::LONG_HEADER,
             place: 0,
         };
     }
-    if refusal::MOST_BODY < body {
+    if orders::MOST_BODY < body {
         return Refusal {
-            number: refusal::BODY,
+            number: refusal::LONG_BODY,
             place: 0,
         };
     }
@@ -396,7 +396,7 @@ fn buffer_refusal(bundle: &[u8], header: usize, body: usize) -> Refusal
     let raised = end + entry_size(header, body);
     if room < raised || MOST_BYTES < raised {
         return Refusal {
-            number: refusal::ROOM,
+            number: refusal::NO_ROOM,
             place: 0,
         };
     }

@@ -3,7 +3,6 @@ ghost use mathlib.Core.Path.{_≡_};
 ghost use mathlib.Core.List.{[]};
 ghost use Rattle.image.specs.Calls.{seen, opensImage, wrapsImage, unwrapsImage};
 ghost use Rattle.desk.specs.Desk.{deskRate, deskTag, hashed, hashes};
-use spongewrap::refusal;
 
 // The settings of an open that takes none. They are the desk's own: images on disk hold them.
 const RATE: u16 = 136;
@@ -50,7 +49,7 @@ pub extern "C" fn feefledown_sha3_256(message: &[u8], digest: &mut [u8]) -> u8
     ensures { λ r. ⌜ hashed r (now (digest .exit)) ≡ hashes (now (message .entry)) (now (digest .entry)) ⌝ }
 {
     if digest.len() < DIGEST {
-        return refusal::ROOM;
+        return refusal::NO_ROOM;
     }
     let made = sponge::sha3_256(message);
     fields::put_string(digest, 0, &made);

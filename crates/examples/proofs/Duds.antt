@@ -16,8 +16,9 @@ use Rattle.duplex.specs.Duplex.{framed, after}
 use Rattle.duplex.specs.Strings.{blocks, front, cut, xored, absorbed, masked, sealed, unmasked, opened as opened-string}
 use Rattle.spongewrap.specs.Desk.{desk}
 use Rattle.spongewrap.specs.SpongeWrap.{headed, bodied, ciphertext, left, plaintext}
-use Rattle.spongewrap.specs.Refusals.{pick, openRefusal, wrapRefusal, unwrapRefusal}
-use Rattle.spongewrap.specs.Sessions.{opened, opens, cost, advanced, next, sealing, tagOf, recovered, Seen, wraps, unwraps}
+use Rattle.refusal.specs.Rows.{pick}
+use Rattle.spongewrap.specs.Refusals.{openRefusal, wrapRefusal, unwrapRefusal}
+use Rattle.spongewrap.specs.Sessions.{opens, cost, advanced, next, sealing, tagOf, recovered, Seen, wraps, unwraps}
 use Rattle.spongewrap.specs.declared.Session.{Session}
 use Rattle.spongewrap.specs.declared.Answer.{Answer}
 use Rattle.spongewrap.proofs.Theorems.{wrap-number, unwrap-number, wrapped-is, unwrapped-is, unwrap-accepts-exactly, wrong-tag-releases-nothing, text-is}
@@ -32,7 +33,7 @@ plain R = record { lanes = zeros; rate = R; tag = 16; pairs = 1; calls = 1 }
 
 module _ (g : List ℕ → ℕ → ℕ → Answer) (meets : (key : List ℕ) (R t : ℕ) → g key R t ≡ opens desk key R t) where
   opens-well : g (replicate 16 0) 136 16 .number ≡ 0
-  unfolding opens opened openRefusal pick
+  unfolding opens openRefusal pick
   opens-well = rw meets
 
   -- An open that refuses everything.
@@ -41,7 +42,7 @@ module _ (g : List ℕ → ℕ → ℕ → Answer) (meets : (key : List ℕ) (R 
 
   -- An open with a fixed answer.
   pub open-fixed : (v : Answer) → ((key : List ℕ) (R t : ℕ) → g key R t ≡ v) → ⊥
-  unfolding opens opened openRefusal pick
+  unfolding opens openRefusal pick
   open-fixed v d =
       let z : _≡_ {A = ℕ} 0 1 = sym opens-well ∙ ap (λ (a : Answer). a .number) (d (replicate 16 0) 136 16 ∙ sym (d [] 0 0) ∙ meets [] 0 0) in
       omega arith
@@ -171,7 +172,7 @@ module _ (g : Session → List ℕ → List ℕ → List ℕ → List ℕ → Se
   due = tagOf desk (plain 136) [] (recovered desk (plain 136) [] [])
 
   unwraps-well : unwraps desk (plain 136) [] [] due [] .answer .number ≡ 0
-  unfolding due plain unwrapRefusal pick
+  unfolding due plain pick
   unwraps-well = unwrap-accepts-exactly desk (plain 136) [] [] due [] refl .1 refl
 
   -- An unwrap that refuses everything.
@@ -196,7 +197,7 @@ module _ (g : Session → List ℕ → List ℕ → List ℕ → List ℕ → Se
 
   -- An unwrap that writes the plaintext and then checks the tag.
   pub unwrap-writes-early : ((s : Session) (h c t o : List ℕ) → g s h c t o .answer .number ≡ 8 → take (length c) (g s h c t o .out) ≡ recovered desk s h c) → ⊥
-  unfolding plain unwrapRefusal pick
+  unfolding plain pick
   unwrap-writes-early d =
       let c : List ℕ = 0 ∷ [] in
       let r = unwrap-fits desk (plain 136) 0 1 1 refl .0 .rate in

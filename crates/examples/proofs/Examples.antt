@@ -10,8 +10,9 @@ use Rattle.sponge.specs.Pieces.{before}
 use Rattle.duplex.specs.Duplex.{framed}
 use Rattle.duplex.specs.Strings.{blocks}
 use Rattle.spongewrap.specs.Desk.{desk}
-use Rattle.spongewrap.specs.Refusals.{pick, openRefusal, wrapRefusal}
-use Rattle.spongewrap.specs.Sessions.{opened, opens, cost, advanced, next, settled, wraps}
+use Rattle.refusal.specs.Rows.{pick, by}
+use Rattle.spongewrap.specs.Refusals.{openRefusal, wrapRefusal}
+use Rattle.spongewrap.specs.Sessions.{opens, cost, advanced, next, settled, wraps}
 use Rattle.spongewrap.specs.declared.Session.{Session}
 
 -- byte i of the block of a piece of n bytes with the frame bit b
@@ -62,5 +63,5 @@ cases =
 
 -- Each worked example of document 01 that is marked P comes out as it is listed there.
 pub examples : map (λ c. c .0) cases ≡ map (λ c. c .1) cases
-unfolding cases byte begun entered framed padded tail blocks before opens opened openRefusal pick wraps settled wrapRefusal next advanced cost
+unfolding cases byte begun entered framed padded tail blocks before opens openRefusal pick by wraps settled wrapRefusal next advanced cost
 examples = refl

@@ -6,7 +6,6 @@ ghost use Rattle.image.specs.Image.{imageLength, imageOf, sessionOf};
 ghost use Rattle.image.specs.Calls.{seen, kept, opensImage, wrapsImage, unwrapsImage};
 use spongewrap::Answer;
 use spongewrap::Session;
-use spongewrap::refusal;
 
 // How many bytes an image has.
 pub const LENGTH: usize = 216;
@@ -67,7 +66,7 @@ pub fn open(key: &[u8], rate: u16, tag: u16, image: &mut [u8]) -> u8
     ensures { λ r. ⌜ seen r (now (image .exit)) [] ≡ opensImage (now (key .entry)) rate tag (now (image .entry)) ⌝ }
 {
     if image.len() != LENGTH {
-        return refusal::ROOM;
+        return refusal::NO_ROOM;
     }
     settled(spongewrap::open(key, rate, tag), image)
 }
@@ -77,7 +76,7 @@ pub fn wrap(image: &mut [u8], header: &[u8], body: &[u8], out: &mut [u8]) -> u8
     ensures { λ r. ⌜ seen r (now (image .exit)) (now (out .exit)) ≡ wrapsImage (now (image .entry)) (now (header .entry)) (now (body .entry)) (now (out .entry)) ⌝ }
 {
     if image.len() != LENGTH {
-        return refusal::ROOM;
+        return refusal::NO_ROOM;
     }
     let session = session_of(&image[..]);
     settled(spongewrap::wrap(session, header, body, out), image)
@@ -88,7 +87,7 @@ pub fn unwrap(image: &mut [u8], header: &[u8], cipher: &[u8], tag: &[u8], body: 
     ensures { λ r. ⌜ seen r (now (image .exit)) (now (body .exit)) ≡ unwrapsImage (now (image .entry)) (now (header .entry)) (now (cipher .entry)) (now (tag .entry)) (now (body .entry)) ⌝ }
 {
     if image.len() != LENGTH {
-        return refusal::ROOM;
+        return refusal::NO_ROOM;
     }
     let session = session_of(&image[..]);
     settled(

@@ -5,7 +5,6 @@ use bundle::Entry;
 use bundle::Surveyed;
 use libc::STDIN_FILENO;
 use libc::STDOUT_FILENO;
-use spongewrap::refusal;
 
 fn print(text: &[u8], n: u64) {
     io::write_all(STDOUT_FILENO, text);
@@ -71,7 +70,7 @@ fn main() {
     let mut more = [0u8; 1];
     let over = io::read_full(STDIN_FILENO, &mut more);
     if over != 0 {
-        print_refusal(refusal::ROOM, bytes.len());
+        print_refusal(refusal::NO_ROOM, bytes.len());
         return;
     }
     list(&bytes[..n]);

@@ -5,6 +5,8 @@ use native.Mathlib.Omega.{arith}
 use mathlib.Core.Path.{_≡_, refl, sym, ap, _∙_}
 use mathlib.Core.List.{List, [], _∷_, _++_, append-assoc, append-nil}
 use lib.ListN.{length, take, drop, replicate, length-append, length-replicate, length-take}
+use Rattle.refusal.specs.Rows.{by}
+use Rattle.refusal.proofs.Rows.{made}
 use Rattle.sponge.specs.Pieces.{piece, blocksOf, before}
 use Rattle.sponge.specs.Sponge.{zeros, absorb, sponge}
 use Rattle.sponge.proofs.Padding.{length-padded}
@@ -17,9 +19,8 @@ use Rattle.duplex.proofs.Open.{length-opened}
 use Rattle.duplex.proofs.Masks.{sealed-piece, opened-piece}
 use Rattle.duplex.proofs.Draw.{after-blocks, drawn-piece}
 use Rattle.spongewrap.specs.SpongeWrap.{keyed, headed, bodied, ciphertext, tagged, left, plaintext}
-use Rattle.spongewrap.specs.Refusals.{openRefusal}
-use Rattle.spongewrap.specs.Sessions.{opened as open-settled, opens, cost, advanced, next, sealing, tagOf, recovered, Seen}
-use Rattle.spongewrap.specs.History.{Call, answered, Pair, pairOf, ifAccepted, after, accepted, blanks, pairBlocks, pairsBlocks, history, pairsCost, Whole, output, Output, Told}
+use Rattle.spongewrap.specs.Sessions.{none, fresh, opens, cost, advanced, next, sealing, tagOf, recovered, Seen}
+use Rattle.spongewrap.specs.History.{Call, answered, Pair, pairOf, after, accepted, blanks, pairBlocks, pairsBlocks, history, pairsCost, Whole, output, Output, Told}
 use Rattle.spongewrap.specs.History.Call.{wrapping, unwrapping}
 use Rattle.spongewrap.specs.Kinds.{Kind}
 use Rattle.spongewrap.specs.declared.Session.{Session}
@@ -204,7 +205,7 @@ module _ (K : Kind) where
   Ran R t B n ps s = Agrees R t (B ++ pairsBlocks R t ps) (n + length ps) s × Outputs R t B ps
 
   run : (R t : ℕ) (B : List (List ℕ)) (n : ℕ) (s : Session) → Agrees R t B n s → (cs : List Call) → Ran R t B n (accepted K s cs) (after K s cs)
-  unfolding accepted ifAccepted after pairsBlocks Outputs
+  unfolding accepted by after pairsBlocks Outputs
   run R t B n s a [] = (rw (append-nil, add-zero) a, tt)
   run R t B n s a (c ∷ cs) = go (λ C m. λ g. run R t C m s′ g cs) (answered K s c .answer .number) refl
     where
@@ -212,7 +213,7 @@ module _ (K : Kind) where
       s′ = answered K s c .answer .session
 
       go : ((C : List (List ℕ)) (m : ℕ) → Agrees R t C m s′ → Ran R t C m (accepted K s′ cs) (after K s′ cs))
-          → (m : ℕ) → answered K s c .answer .number ≡ m → Ran R t B n (ifAccepted m (pairOf K s c) ++ accepted K s′ cs) (after K s′ cs)
+          → (m : ℕ) → answered K s c .answer .number ≡ m → Ran R t B n (by m [] (pairOf K s c ∷ []) ++ accepted K s′ cs) (after K s′ cs)
       go on zero e =
           let i = on (B ++ pairBlocks R t (pairOf K s c)) (n + 1) (call-agrees R t B n s a c e) in
           let k : n + suc (length (accepted K s′ cs)) ≡ n + 1 + length (accepted K s′ cs) = omega arith in
@@ -225,11 +226,11 @@ module _ (K : Kind) where
   among R t B [] rest p o = rw append-nil (o .0)
   among R t B (q ∷ before) rest p o = rw (← append-assoc) (among R t (B ++ pairBlocks R t q) before rest p (o .1))
 
-  opened-agrees : (key : List ℕ) (R t m : ℕ) → open-settled K m R t key .number ≡ 0 → Agrees R t (cut R 1 0 key) 0 (open-settled K m R t key .session)
-  unfolding open-settled keyed absorbed
-  opened-agrees key R t zero e =
-      record { rate = refl; tag = refl; pairs = refl; calls = sym (length-cut R 1 0 key); lanes = unfold sponge in refl }
-  opened-agrees key R t (suc m) e = absurd (omega arith)
+  opened-agrees : (key : List ℕ) (R t : ℕ) → opens K key R t .number ≡ 0 → Agrees R t (cut R 1 0 key) 0 (opens K key R t .session)
+  unfolding opens keyed absorbed sponge
+  opened-agrees key R t e =
+      rw (made _ none (fresh K R t key) e)
+      (record { rate = refl; tag = refl; pairs = refl; calls = sym (length-cut R 1 0 key); lanes = refl })
 
   -- Demand 3. Whatever calls are made from an opened session, each given the session that the last one handed back: its count is the
   -- blocks of the key and of each accepted header and body and the extra blocks of tags; exactly that many padded blocks, read off the
@@ -240,7 +241,7 @@ module _ (K : Kind) where
   history-tells key R t cs e =
       let s = opens K key R t .session in
       let ps = accepted K s cs in
-      let a = run R t (cut R 1 0 key) 0 s (unfold opens in opened-agrees key R t (openRefusal K (length key) R t) e) cs in
+      let a = run R t (cut R 1 0 key) 0 s (opened-agrees key R t e) cs in
       let r = open-fits K (length key) R t (sym (open-number K key R t) ∙ e) .rates in
       let n : length (history R t key ps) ≡ blocks R (length key) + pairsCost R t ps =
       length-append (cut R 1 0 key) (pairsBlocks R t ps) ∙ rw (length-cut, length-pairs) in

@@ -1,6 +1,4 @@
-pub mod Rows
 pub mod Passed
-pub mod Same
 pub mod Steps
 pub mod Settle
 pub mod Theorems

@@ -10,17 +10,15 @@ use Rattle.spongewrap.proofs.Session.open.Reads as default
 use Rattle.spongewrap.proofs.open.Reads as opening
 use Rattle.spongewrap.proofs.wrap.Reads as wrap
 use Rattle.spongewrap.proofs.unwrap.Reads as unwrap
-use Rattle.spongewrap.proofs.refusal.of_open.Reads as of-open
-use Rattle.spongewrap.proofs.refusal.of_session.Reads as of-session
-use Rattle.spongewrap.proofs.refusal.of_wrap.Reads as of-wrap
-use Rattle.spongewrap.proofs.refusal.of_unwrap.Reads as of-unwrap
-use Rattle.spongewrap.proofs.refusal.of_settings.Reads as of-settings
-use Rattle.spongewrap.proofs.refusal.of_own.Reads as of-own
-use Rattle.spongewrap.proofs.refusal.of_pair.Reads as of-pair
-use Rattle.spongewrap.proofs.refusal.bad_size.Reads as bad-size
-use Rattle.spongewrap.proofs.refusal.is_full.Reads as is-full
-use Rattle.spongewrap.proofs.refusal.is_short.Reads as is-short
-use Rattle.spongewrap.proofs.is_same.Reads as is-same
+use Rattle.spongewrap.proofs.orders.of_open.Reads as of-open
+use Rattle.spongewrap.proofs.orders.of_session.Reads as of-session
+use Rattle.spongewrap.proofs.orders.of_wrap.Reads as of-wrap
+use Rattle.spongewrap.proofs.orders.of_unwrap.Reads as of-unwrap
+use Rattle.spongewrap.proofs.orders.of_settings.Reads as of-settings
+use Rattle.spongewrap.proofs.orders.of_own.Reads as of-own
+use Rattle.spongewrap.proofs.orders.of_pair.Reads as of-pair
+use Rattle.spongewrap.proofs.orders.bad_size.Reads as bad-size
+use Rattle.spongewrap.proofs.orders.is_full.Reads as is-full
 
 -- what is seen says both its parts
 pub parts : (r r′ : Answer) (o o′ : List ℕ) → seen r o ≡ seen r′ o′ → (r ≡ r′) × (o ≡ o′)
@@ -68,9 +66,3 @@ bad-size-outcome κs a x y s t e h = e ∙ sym h
 
 pub is-full-outcome : (κs : Lfts 0) (a x y s t : _) → is-full.Post κs a x s → is-full.Post κs a y t → x ≡ y
 is-full-outcome κs a x y s t e h = e ∙ sym h
-
-pub is-short-outcome : (κs : Lfts 0) (a x y s t : _) → is-short.Post κs a x s → is-short.Post κs a y t → x ≡ y
-is-short-outcome κs a x y s t e h = e ∙ sym h
-
-pub is-same-outcome : (κs : Lfts 2) (a x y s t : _) → is-same.Post κs a x s → is-same.Post κs a y t → x ≡ y
-is-same-outcome κs a x y s t e h = e ∙ sym h

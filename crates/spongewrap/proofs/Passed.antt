@@ -1,27 +1,18 @@
 -- What holds where no row of a table does, and how the rows of an unwrap stand to those of a wrap.
-use Prim.Native.Nat.{ℕ, zero, suc, _+_, _≤_, _<_}
+use Prim.Native.Nat.{ℕ, _+_, _≤_, _<_}
 use native.Mathlib.Omega.{arith}
 use mathlib.Core.Path.{_≡_, refl, sym, _∙_}
-use mathlib.Core.List.{List, [], _∷_}
-use mathlib.Core.Bool.{Bool, true, false, not, _&&_, _||_, and-true}
+use mathlib.Core.List.{List, [], _∷_, _++_}
+use mathlib.Core.Bool.{Bool, true, false, not, _&&_, and-true}
 use lib.Dec.{eqb, ltb, leb}
 use borrow.Author.Tests.{ltb-false, leb-false, eqb-true, le-ltb}
+use Rattle.refusal.specs.Rows.{pick, first, by, short}
+use Rattle.refusal.proofs.Tests.{neither, inside}
+use Rattle.refusal.proofs.Rows.{kept, made, by-zero, Clear, all-clear, clear-first, clear-append, clear-parts, first-append}
 use Rattle.duplex.specs.Duplex.{Rate}
-use Rattle.spongewrap.specs.Refusals.{pick, badRate, badSize, longHeader, longBody, full, openRefusal, wrapRefusal, unwrapRefusal}
+use Rattle.spongewrap.specs.Refusals.{leastSize, mostSize, mostHeader, mostBody, mostPairs, badRate, badSize, full, openRows, ownRows, partRows, openRefusal, commonRows, wrapRefusal, readyRows, unwrapRefusal, Fits}
 use Rattle.spongewrap.specs.Kinds.{Rates, Kind}
 use Rattle.spongewrap.specs.declared.Session.{Session}
-use Rattle.spongewrap.proofs.Rows.{led, orElse, pick-or}
-
-pick-zero : (b : Bool) (n q : ℕ) → pick b (suc n) q ≡ 0 → (b ≡ false) × (q ≡ 0)
-unfolding pick
-pick-zero true n q e = absurd (omega arith)
-pick-zero false n q e = (refl, e)
-
-or-false : (a b : Bool) → (a || b) ≡ false → (a ≡ false) × (b ≡ false)
-or-false true b e = let z : _≡_ {A = ℕ} 0 1 = cc in absurd (omega arith)
-or-false false b e = (refl, e)
-
--- ---- the single clauses
 
 good-rate : (w : ℕ) (Rs : List ℕ) (R : ℕ) → Rates w Rs → badRate Rs R ≡ false → Rate w R
 good-rate w [] R f e = let z : _≡_ {A = ℕ} 0 1 = cc in absurd (omega arith)
@@ -31,111 +22,74 @@ good-rate w (r ∷ Rs) R f e = go (good-rate w Rs R (f .1)) (eqb R r) refl e
     go on true p e = rw (eqb-true R r p) (f .0)
     go on false p e = on (rw and-true at e)
 
-good-size : (n : ℕ) → badSize n ≡ false → (16 ≤ n) × (n ≤ 256)
-good-size n e = let p = or-false (ltb n 16) (ltb 256 n) e in (ltb-false n 16 (p .0), ltb-false 256 n (p .1))
-
 module _ (K : Kind) where
-  -- ---- the rows that a wrap and an unwrap have in common, before what q the others come to
+  -- ---- the rows that a wrap and an unwrap have in common
 
-  abbrev common : Session → ℕ → ℕ → ℕ → ℕ
-  common s h b q = led (badRate (K .rates) (s .rate)) (badSize (s .tag)) (full (K .ceiling) (s .pairs) (s .calls)) (pick (longHeader h) 4 (pick (longBody b) 5 q))
-
-  record Clear (s : Session) (h b : ℕ) : Type 0 where
-    rate : badRate (K .rates) (s .rate) ≡ false
-    tag : badSize (s .tag) ≡ false
-    room : full (K .ceiling) (s .pairs) (s .calls) ≡ false
-    header : longHeader h ≡ false
-    body : longBody b ≡ false
-
-  clear : (s : Session) (h b q : ℕ) → common s h b q ≡ 0 → Clear s h b × (q ≡ 0)
-  clear s h b q e =
-      let p1 = pick-zero (badRate (K .rates) (s .rate)) 0 _ e in
-      let p3 = pick-zero (badSize (s .tag)) 2 _ (p1 .1) in
-      let p7 = pick-zero (full (K .ceiling) (s .pairs) (s .calls)) 6 _ (p3 .1) in
-      let p4 = pick-zero (longHeader h) 3 _ (p7 .1) in
-      let p5 = pick-zero (longBody b) 4 _ (p4 .1) in
-      (record { rate = p1 .0; tag = p3 .0; room = p7 .0; header = p4 .0; body = p5 .0 }, p5 .1)
-
-  common-zero : (s : Session) (h b q : ℕ) → Clear s h b → q ≡ 0 → common s h b q ≡ 0
-  unfolding pick
-  common-zero s h b q k e = rw (k .rate, k .tag, k .room, k .header, k .body) e
-
-  -- what that says of a session and of the lengths of a header and a body
-  pub record Fits (s : Session) (h b : ℕ) : Type 0 where
-    pub rate : Rate (K .w) (s .rate)
-    pub tag : (16 ≤ s .tag) × (s .tag ≤ 256)
-    pub pairs : s .pairs < 65535
-    pub calls : s .calls ≤ K .ceiling
-    pub header : h ≤ 65535
-    pub body : b ≤ 1048576
-
-  fits : (s : Session) (h b : ℕ) → Clear s h b → Fits s h b
+  fits : (s : Session) (h b : ℕ) → Clear (commonRows K s h b) → Fits K s h b
   fits s h b k =
-      let f = or-false (leb 65535 (s .pairs)) (ltb (K .ceiling) (s .calls)) (k .room) in
+      let f = neither (leb mostPairs (s .pairs)) (ltb (K .ceiling) (s .calls)) (k .1 .1 .0) in
       record {
-        rate = good-rate (K .w) (K .rates) (s .rate) (K .fit) (k .rate);
-        tag = good-size (s .tag) (k .tag);
-        pairs = leb-false 65535 (s .pairs) (f .0);
+        rate = good-rate (K .w) (K .rates) (s .rate) (K .fit) (k .0);
+        tag = inside leastSize mostSize (s .tag) (k .1 .0);
+        pairs = leb-false mostPairs (s .pairs) (f .0);
         calls = ltb-false (K .ceiling) (s .calls) (f .1);
-        header = ltb-false 65535 h (k .header);
-        body = ltb-false 1048576 b (k .body);
+        header-fits = ltb-false mostHeader h (k .1 .1 .1 .0);
+        body-fits = ltb-false mostBody b (k .1 .1 .1 .1 .0);
       }
 
+  -- those, and then the output's
+  room : (s : Session) (h b o n : ℕ) → first (commonRows K s h b ++ (short o n, 6) ∷ []) ≡ 0 → Clear (commonRows K s h b) × (n ≤ o)
+  room s h b o n e =
+      let k = clear-parts (commonRows K s h b) ((short o n, 6) ∷ []) (all-clear (commonRows K s h b ++ (short o n, 6) ∷ []) refl e) in
+      (k .0, ltb-false o n (k .1 .0))
+
+  -- the number that the session's own rows, and then the others, come to
+  pub pair-is : (s : Session) (h b own r : ℕ) (x y z short : Bool) → x ≡ badRate (K .rates) (s .rate) → y ≡ badSize (s .tag)
+      → own ≡ first (ownRows x y (full (K .ceiling) (s .pairs) (s .calls))) → z ≡ short → r ≡ by own own (first (partRows h b ++ (z, 6) ∷ []))
+      → r ≡ first (commonRows K s h b ++ (short, 6) ∷ [])
+  pair-is s h b own r x y z short p q e i f =
+      f ∙ rw (e, p, q, i) (sym (first-append (ownRows (badRate (K .rates) (s .rate)) (badSize (s .tag)) (full (K .ceiling) (s .pairs) (s .calls))) (partRows h b ++ (short, 6) ∷ []) refl))
+
   -- a wrap that is not refused
-  pub wrap-fits : (s : Session) (h b o : ℕ) → wrapRefusal K s h b o ≡ 0 → Fits s h b × (b + s .tag ≤ o)
+  pub wrap-fits : (s : Session) (h b o : ℕ) → wrapRefusal K s h b o ≡ 0 → Fits K s h b × (b + s .tag ≤ o)
   unfolding wrapRefusal
-  wrap-fits s h b o e =
-      let k = clear s h b _ e in
-      (fits s h b (k .0), ltb-false o (b + s .tag) (pick-zero (ltb o (b + s .tag)) 5 _ (k .1) .0))
+  wrap-fits s h b o e = let k = room s h b o (b + s .tag) e in (fits s h b (k .0), k .1)
 
   -- an unwrap that passes all but its tag's row
-  pub unwrap-fits : (s : Session) (h c o : ℕ) → unwrapRefusal K s h c o false ≡ 0 → Fits s h c × (c ≤ o)
-  unfolding unwrapRefusal
-  unwrap-fits s h c o e =
-      let k = clear s h c _ e in
-      (fits s h c (k .0), ltb-false o c (pick-zero (ltb o c) 5 _ (k .1) .0))
+  pub unwrap-fits : (s : Session) (h c o : ℕ) → first (readyRows K s h c o) ≡ 0 → Fits K s h c × (c ≤ o)
+  unwrap-fits s h c o e = let k = room s h c o c e in (fits s h c (k .0), k .1)
 
   -- what may be wrapped may be unwrapped, into any output that has room
-  pub may-unwrap : (s : Session) (h b o o′ : ℕ) → wrapRefusal K s h b o ≡ 0 → b ≤ o′ → unwrapRefusal K s h b o′ false ≡ 0
-  unfolding wrapRefusal unwrapRefusal pick
-  may-unwrap s h b o o′ e l = common-zero s h b _ (clear s h b _ e .0) (rw (le-ltb o′ b l))
+  pub may-unwrap : (s : Session) (h b o o′ : ℕ) → wrapRefusal K s h b o ≡ 0 → b ≤ o′ → first (readyRows K s h b o′) ≡ 0
+  unfolding wrapRefusal
+  may-unwrap s h b o o′ e l =
+      clear-first (readyRows K s h b o′) (clear-append (commonRows K s h b) ((short o′ b, 6) ∷ []) (room s h b o (b + s .tag) e .0) (le-ltb o′ b l, tt))
 
   -- ---- an open that is not refused
 
   pub record Opens (key rate tag : ℕ) : Type 0 where
     pub rates : Rate (K .w) rate
-    pub keys : (16 ≤ key) × (key ≤ 256)
-    pub tags : (16 ≤ tag) × (tag ≤ 256)
+    pub keys : (leastSize ≤ key) × (key ≤ mostSize)
+    pub tags : (leastSize ≤ tag) × (tag ≤ mostSize)
 
   pub open-fits : (key rate tag : ℕ) → openRefusal K key rate tag ≡ 0 → Opens key rate tag
   unfolding openRefusal
   open-fits key rate tag e =
-      let p1 = pick-zero (badRate (K .rates) rate) 0 _ e in
-      let p2 = pick-zero (badSize key) 1 _ (p1 .1) in
-      let p3 = pick-zero (badSize tag) 2 _ (p2 .1) in
-      record { rates = good-rate (K .w) (K .rates) rate (K .fit) (p1 .0); keys = good-size key (p2 .0); tags = good-size tag (p3 .0) }
+      let k = all-clear (openRows (badRate (K .rates) rate) key tag) refl e in
+      record { rates = good-rate (K .w) (K .rates) rate (K .fit) (k .0); keys = inside leastSize mostSize key (k .1 .0); tags = inside leastSize mostSize tag (k .1 .1 .0) }
 
   -- ---- the last row of an unwrap, its tag's
 
   module _ (s : Session) (h c o : ℕ) (other : Bool) where
-    last-row : unwrapRefusal K s h c o other ≡ orElse (unwrapRefusal K s h c o false) (pick other 8 0)
-    unfolding unwrapRefusal pick orElse
-    last-row =
-        rw (← pick-or (badRate (K .rates) (s .rate)) 0, ← pick-or (badSize (s .tag)) 2, ← pick-or (full (K .ceiling) (s .pairs) (s .calls)) 6, ← pick-or (longHeader h) 3, ← pick-or (longBody c) 4, ← pick-or (ltb o c) 5)
+    last-row : unwrapRefusal K s h c o other ≡ by (first (readyRows K s h c o)) (first (readyRows K s h c o)) (pick other 8 0)
+    unfolding unwrapRefusal
+    last-row = first-append (readyRows K s h c o) ((other, 8) ∷ []) refl
 
-    pub before-tag : (n : ℕ) → n ≡ unwrapRefusal K s h c o false → (n ≡ 0 → ⊥) → n ≡ unwrapRefusal K s h c o other
-    unfolding orElse
-    before-tag zero e d = absurd (d refl)
-    before-tag (suc n) e d = rw (last-row, ← e)
+    pub before-tag : (n : ℕ) → n ≡ first (readyRows K s h c o) → (n ≡ 0 → ⊥) → n ≡ unwrapRefusal K s h c o other
+    before-tag n e d = rw (last-row, ← e) (sym (kept n n (pick other 8 0) d))
 
-    pub at-tag : unwrapRefusal K s h c o false ≡ 0 → unwrapRefusal K s h c o other ≡ pick other 8 0
-    unfolding orElse
-    at-tag e = rw (last-row, e)
+    pub at-tag : first (readyRows K s h c o) ≡ 0 → unwrapRefusal K s h c o other ≡ pick other 8 0
+    at-tag e = last-row ∙ made _ _ _ e
 
-    pub all-but-tag : unwrapRefusal K s h c o other ≡ 0 → unwrapRefusal K s h c o false ≡ 0
-    unfolding orElse
-    all-but-tag e = go (unwrapRefusal K s h c o false) (sym last-row ∙ e)
-      where
-        go : (m : ℕ) → orElse m (pick other 8 0) ≡ 0 → m ≡ 0
-        go zero f = refl
-        go (suc m) f = f
+    pub all-but-tag : unwrapRefusal K s h c o other ≡ 0 → first (readyRows K s h c o) ≡ 0
+    all-but-tag e = by-zero (first (readyRows K s h c o)) (pick other 8 0) (sym last-row ∙ e) .0

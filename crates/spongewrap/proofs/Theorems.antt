@@ -1,42 +1,30 @@
 -- What the definitions of the calls come to, for every session and every input.
-use Prim.Native.Nat.{ℕ, zero, suc, _+_, _≤_}
+use Prim.Native.Nat.{ℕ, _+_, _≤_}
 use native.Mathlib.Omega.{arith}
 use mathlib.Core.Path.{_≡_, refl, sym, ap, _∙_}
 use mathlib.Core.List.{List, [], _∷_, _++_, append-assoc}
 use mathlib.Core.Bool.{Bool, true, false, not}
 use lib.ListN.{length, take, drop, length-append, length-drop}
 use lib.Seq.{take-at, drop-at}
+use Rattle.refusal.specs.Rows.{pick, first, by}
+use Rattle.refusal.proofs.Rows.{kept}
+use Rattle.compare.specs.Same.{same}
+use Rattle.compare.proofs.Same.{same-eq, same-is, other-is}
 use Rattle.duplex.proofs.RoundTrip.{round-trip}
 use Rattle.spongewrap.specs.SpongeWrap.{headed, ciphertext, plaintext}
-use Rattle.spongewrap.specs.Refusals.{pick, same, openRefusal, wrapRefusal, unwrapRefusal}
-use Rattle.spongewrap.specs.Sessions.{none, opened, opens, next, sealing, tagOf, recovered, Seen, seen, settled, wraps, foreign, unwraps}
+use Rattle.spongewrap.specs.Refusals.{openRefusal, wrapRefusal, readyRows, unwrapRefusal, Fits}
+use Rattle.spongewrap.specs.Sessions.{none, fresh, opens, next, sealing, tagOf, recovered, Seen, seen, settled, wraps, foreign, unwraps}
 use Rattle.spongewrap.specs.Kinds.{Kind}
 use Rattle.spongewrap.specs.declared.Session.{Session}
-use Rattle.spongewrap.proofs.Passed.{Fits, wrap-fits, unwrap-fits, may-unwrap, at-tag, all-but-tag}
-use Rattle.spongewrap.proofs.Same.{same-eq, same-is, other-is}
-use Rattle.spongewrap.proofs.Settle.{accepted, length-sealing, length-tagOf, length-wrapped, length-recovered}
+use Rattle.spongewrap.proofs.Passed.{wrap-fits, unwrap-fits, may-unwrap, at-tag, all-but-tag}
+use Rattle.spongewrap.proofs.Settle.{refused, accepted, length-sealing, length-tagOf, length-wrapped, length-recovered}
 
 -- ---- any call
-
-number-is : (n : ℕ) (s s′ : Session) (o x : List ℕ) → settled n s o s′ x .answer .number ≡ n
-unfolding settled
-number-is zero s s′ o x = refl
-number-is (suc n) s s′ o x = refl
 
 -- the session and the output that were handed over
 pub record Kept (s : Session) (o : List ℕ) (v : Seen) : Type 0 where
   pub session : v .answer .session ≡ s
   pub out : v .out ≡ o
-
-kept : (n : ℕ) (s s′ : Session) (o x : List ℕ) → (settled n s o s′ x .answer .number ≡ 0 → ⊥) → Kept s o (settled n s o s′ x)
-unfolding settled
-kept zero s s′ o x d = absurd (d refl)
-kept (suc n) s s′ o x d = record { session = refl; out = refl }
-
-eight : (n : ℕ) (s s′ : Session) (o x : List ℕ) → settled n s o s′ x .answer .number ≡ 8 → settled n s o s′ x ≡ seen (record { number = 8; session = s }) o
-unfolding settled
-eight zero s s′ o x e = absurd (omega arith)
-eight (suc n) s s′ o x e = rw e
 
 -- x was written over the first n bytes of o, each later byte keeps its value, and the length is what it was
 pub record Written (n : ℕ) (o x v : List ℕ) : Type 0 where
@@ -64,50 +52,47 @@ module _ (K : Kind) where
 
   -- An open answers the table's number: the first of 1, 2, 3 whose clause holds, and 0 if none does.
   pub open-number : (key : List ℕ) (R t : ℕ) → opens K key R t .number ≡ openRefusal K (length key) R t
-  unfolding opens opened
-  open-number key R t = go (openRefusal K (length key) R t)
-    where
-      go : (n : ℕ) → opened K n R t key .number ≡ n
-      go zero = refl
-      go (suc n) = refl
+  unfolding opens
+  open-number key R t = refl
 
   -- A wrap answers the table's number: the first of 1, 3, 7, 4, 5, 6 whose clause holds, and 0 if none does.
   pub wrap-number : (s : Session) (h b o : List ℕ) → wraps K s h b o .answer .number ≡ wrapRefusal K s (length h) (length b) (length o)
-  unfolding wraps
-  wrap-number s h b o = number-is _ s _ o _
+  unfolding wraps settled
+  wrap-number s h b o = refl
 
   -- An unwrap answers the table's number: the first of 1, 3, 7, 4, 5, 6, 8 whose clause holds, and 0 if none does.
   pub unwrap-number : (s : Session) (h c t o : List ℕ)
       → unwraps K s h c t o .answer .number ≡ unwrapRefusal K s (length h) (length c) (length o) (foreign K s h c t)
-  unfolding unwraps
-  unwrap-number s h c t o = number-is _ s _ o _
+  unfolding unwraps settled
+  unwrap-number s h c t o = refl
 
   -- ---- refusals keep everything
 
   -- A refused open gives the session of zeros.
   pub open-refused : (key : List ℕ) (R t : ℕ) → (opens K key R t .number ≡ 0 → ⊥) → opens K key R t .session ≡ none
-  unfolding opens opened
-  open-refused key R t = go (openRefusal K (length key) R t)
-    where
-      go : (n : ℕ) → (opened K n R t key .number ≡ 0 → ⊥) → opened K n R t key .session ≡ none
-      go zero d = absurd (d refl)
-      go (suc n) d = refl
+  unfolding opens
+  open-refused key R t d = kept _ none (fresh K R t key) d
 
   -- A refused wrap gives back the session that it took and leaves every lent byte.
   pub wrap-kept : (s : Session) (h b o : List ℕ) → (wraps K s h b o .answer .number ≡ 0 → ⊥) → Kept s o (wraps K s h b o)
-  unfolding wraps
-  wrap-kept s h b o d = kept _ s _ o _ d
+  unfolding wraps settled
+  wrap-kept s h b o d = record { session = kept _ s _ d; out = kept _ o _ d }
 
   -- A refused unwrap gives back the session that it took and leaves every lent byte.
   pub unwrap-kept : (s : Session) (h c t o : List ℕ) → (unwraps K s h c t o .answer .number ≡ 0 → ⊥) → Kept s o (unwraps K s h c t o)
+  unfolding unwraps settled
+  unwrap-kept s h c t o d = record { session = kept _ s _ d; out = kept _ o _ d }
+
+  eight : (s : Session) (o h c t : List ℕ) → unwraps K s h c t o .answer .number ≡ 8 → unwraps K s h c t o ≡ seen (record { number = 8; session = s }) o
   unfolding unwraps
-  unwrap-kept s h c t o d = kept _ s _ o _ d
+  eight s o h c t e =
+      let n : unwrapRefusal K s (length h) (length c) (length o) (foreign K s h c t) ≡ 8 = sym (unwrap-number s h c t o) ∙ e in
+      refused _ s _ o _ (λ z. omega arith) ∙ rw n
 
   -- All refusals numbered 8 on one session and one lent output are the same, whatever was handed over.
   pub eights-alike : (s : Session) (o h c t h′ c′ t′ : List ℕ) → unwraps K s h c t o .answer .number ≡ 8 → unwraps K s h′ c′ t′ o .answer .number ≡ 8
       → unwraps K s h c t o ≡ unwraps K s h′ c′ t′ o
-  unfolding unwraps
-  eights-alike s o h c t h′ c′ t′ e f = eight _ s _ o _ e ∙ sym (eight _ s _ o _ f)
+  eights-alike s o h c t h′ c′ t′ e f = eight s o h c t e ∙ sym (eight s o h′ c′ t′ f)
 
   -- ---- what an accepted call leaves
 
@@ -115,13 +100,13 @@ module _ (K : Kind) where
   pub wrapped-is : (s : Session) (h b o : List ℕ) → wraps K s h b o .answer .number ≡ 0
       → wraps K s h b o ≡ seen (record { number = 0; session = next K s h b }) ((sealing K s h b ++ tagOf K s h b) ++ drop (length (sealing K s h b ++ tagOf K s h b)) o)
   unfolding wraps
-  wrapped-is s h b o e = sym (accepted _ s (next K s h b) o _ (sym (wrap-number s h b o) ∙ e))
+  wrapped-is s h b o e = accepted _ s (next K s h b) o _ (sym (wrap-number s h b o) ∙ e)
 
   -- An accepted unwrap, whole.
   pub unwrapped-is : (s : Session) (h c t o : List ℕ) → unwraps K s h c t o .answer .number ≡ 0
       → unwraps K s h c t o ≡ seen (record { number = 0; session = next K s h (recovered K s h c) }) (recovered K s h c ++ drop (length (recovered K s h c)) o)
   unfolding unwraps
-  unwrapped-is s h c t o e = sym (accepted _ s (next K s h (recovered K s h c)) o _ (sym (unwrap-number s h c t o) ∙ e))
+  unwrapped-is s h c t o e = accepted _ s (next K s h (recovered K s h c)) o _ (sym (unwrap-number s h c t o) ∙ e)
 
   -- An accepted wrap writes only the ciphertext and the tag, over the first bytes of the lent output.
   pub wrap-first : (s : Session) (h b o : List ℕ) → wraps K s h b o .answer .number ≡ 0
@@ -132,7 +117,7 @@ module _ (K : Kind) where
 
   -- every test of an unwrap but its tag's is passed
   abbrev pub Ready : Session → List ℕ → List ℕ → List ℕ → Type 0
-  Ready s h c o = unwrapRefusal K s (length h) (length c) (length o) false ≡ 0
+  Ready s h c o = first (readyRows K s (length h) (length c) (length o)) ≡ 0
 
   module _ (s : Session) (h c t o : List ℕ) where
     pub accepted-ready : unwraps K s h c t o .answer .number ≡ 0 → Ready s h c o
@@ -156,13 +141,13 @@ module _ (K : Kind) where
     unfolding pick
     unwrap-accepts-exactly r = (λ e. go (same t (tagOf K s h (recovered K s h c))) refl (sym (tag-number r) ∙ e), λ e. tag-number r ∙ rw (same-is t _ e))
       where
-        go : (b : Bool) → same t (tagOf K s h (recovered K s h c)) ≡ b → pick (not b) 8 0 ≡ 0 → t ≡ tagOf K s h (recovered K s h c)
+        go : (b : Bool) → same t (tagOf K s h (recovered K s h c)) ≡ b → pick {A = ℕ} (not b) 8 0 ≡ 0 → t ≡ tagOf K s h (recovered K s h c)
         go true f z = same-eq t _ f
         go false f z = absurd (omega arith)
 
     -- Once the other checks pass, a wrong tag is refused by 8, the session comes back and no byte is written.
     pub wrong-tag-releases-nothing : Ready s h c o → (t ≡ tagOf K s h (recovered K s h c) → ⊥) → unwraps K s h c t o ≡ seen (record { number = 8; session = s }) o
-    unfolding unwraps foreign settled pick
+    unfolding unwraps foreign settled by pick
     wrong-tag-releases-nothing r d =
         rw (at-tag K s (length h) (length c) (length o) (not (same t (tagOf K s h (recovered K s h c)))) r, other-is t (tagOf K s h (recovered K s h c)) d)
 

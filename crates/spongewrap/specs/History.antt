@@ -1,9 +1,10 @@
 -- Histories: any mixture of calls from an opened session, the pairs that were accepted, the padded blocks that these come to,
 -- and one plain sponge over those blocks (demand 3; document 01, "SpongeWrap").
-use Prim.Native.Nat.{ℕ, zero, suc, _+_, _-_, _<_}
+use Prim.Native.Nat.{ℕ, _+_, _-_, _<_}
 use mathlib.Core.Path.{_≡_}
 use mathlib.Core.List.{List, [], _∷_, _++_}
 use lib.ListN.{length, take, drop, replicate}
+use Rattle.refusal.specs.Rows.{by}
 use Rattle.sponge.specs.Bytes.{bytes}
 use Rattle.sponge.specs.Pieces.{piece}
 use Rattle.sponge.specs.Sponge.{sponge}
@@ -45,10 +46,6 @@ pairOf K s (unwrapping h c t o) = record { header = h; body = take (length c) (u
 abbrev pub content : Pair → List ℕ × List ℕ
 content p = (p .header, p .body)
 
-unfoldable pub ifAccepted : ℕ → Pair → List Pair
-ifAccepted zero p = p ∷ []
-ifAccepted (suc n) p = []
-
 -- ---- a run of calls, each given the session that the last one handed back
 
 unfoldable pub after : Kind → Session → List Call → Session
@@ -58,7 +55,7 @@ after K s (c ∷ cs) = after K (answered K s c .answer .session) cs
 -- the pairs that were accepted
 unfoldable pub accepted : Kind → Session → List Call → List Pair
 accepted K s [] = []
-accepted K s (c ∷ cs) = ifAccepted (answered K s c .answer .number) (pairOf K s c) ++ accepted K (answered K s c .answer .session) cs
+accepted K s (c ∷ cs) = by (answered K s c .answer .number) [] (pairOf K s c ∷ []) ++ accepted K (answered K s c .answer .session) cs
 
 -- ---- the padded blocks of a key and of pairs with tags of t bytes
 

@@ -1,19 +1,29 @@
 -- The refusal numbers, a clause each, and the order of each call's (document 01, "Refusal numbers").
-use Prim.Native.Nat.{ℕ, _+_}
+use Prim.Native.Nat.{ℕ, _+_, _<_, _≤_}
 use mathlib.Core.List.{List, [], _∷_, _++_}
-use mathlib.Core.Bool.{Bool, true, false, not, _&&_, _||_}
+use mathlib.Core.Bool.{Bool, true, not, _&&_, _||_}
 use lib.Dec.{eqb, ltb, leb}
+use Rattle.refusal.specs.Rows.{first, outside, short}
+use Rattle.duplex.specs.Duplex.{Rate}
 use Rattle.spongewrap.specs.Kinds.{Kind}
 use Rattle.spongewrap.specs.declared.Session.{Session}
 
--- the number of the first row whose test holds; 0, accepted, if none does
-unfoldable pub pick : Bool → ℕ → ℕ → ℕ
-pick true n rest = n
-pick false n rest = rest
+-- ---- the limits
 
-abbrev pub first : List (Bool × ℕ) → ℕ
-first [] = 0
-first (row ∷ rows) = pick (row .0) (row .1) (first rows)
+abbrev pub leastSize : ℕ
+leastSize = 16
+
+abbrev pub mostSize : ℕ
+mostSize = 256
+
+abbrev pub mostHeader : ℕ
+mostHeader = 65535
+
+abbrev pub mostBody : ℕ
+mostBody = 1048576
+
+abbrev pub mostPairs : ℕ
+mostPairs = 65535
 
 -- ---- the clauses
 
@@ -24,30 +34,19 @@ badRate (R ∷ Rs) rate = badRate Rs rate && not (eqb rate R)
 
 -- 2 and 3: a key, or a tag, of under 16 or over 256 bytes
 abbrev pub badSize : ℕ → Bool
-badSize n = ltb n 16 || ltb 256 n
+badSize n = outside leastSize mostSize n
 
 -- 4: a header of over 65,535 bytes
 abbrev pub longHeader : ℕ → Bool
-longHeader n = ltb 65535 n
+longHeader n = ltb mostHeader n
 
 -- 5: a body of over 1,048,576 bytes
 abbrev pub longBody : ℕ → Bool
-longBody n = ltb 1048576 n
-
--- 6: a lent output has no room for n bytes
-abbrev pub short : ℕ → ℕ → Bool
-short out n = ltb out n
+longBody n = ltb mostBody n
 
 -- 7: 65,535 pairs or more, or a count over the kind's ceiling
 abbrev pub full : ℕ → ℕ → ℕ → Bool
-full ceiling pairs calls = leb 65535 pairs || ltb ceiling calls
-
--- 8: the tag is not the recomputed one. The same bytes:
-unfoldable pub same : List ℕ → List ℕ → Bool
-same [] [] = true
-same [] (y ∷ ys) = false
-same (x ∷ xs) [] = false
-same (x ∷ xs) (y ∷ ys) = eqb x y && same xs ys
+full ceiling pairs calls = leb mostPairs pairs || ltb ceiling calls
 
 -- ---- the orders, by what is found of a session and by the lengths of what is handed over
 
@@ -58,9 +57,9 @@ openRows rate key tag = (rate, 1) ∷ (badSize key, 2) ∷ (badSize tag, 3) ∷ 
 abbrev pub ownRows : Bool → Bool → Bool → List (Bool × ℕ)
 ownRows rate tag full = (rate, 1) ∷ (tag, 3) ∷ (full, 7) ∷ []
 
--- the rows of a pair: the session's own, those of its header and body, and, last, `room`: the output lacks room
-abbrev pub pairRows : Bool → Bool → Bool → ℕ → ℕ → Bool → List (Bool × ℕ)
-pairRows rate tag full header body room = ownRows rate tag full ++ (longHeader header, 4) ∷ (longBody body, 5) ∷ (room, 6) ∷ []
+-- the rows of a header and a body
+abbrev pub partRows : ℕ → ℕ → List (Bool × ℕ)
+partRows header body = (longHeader header, 4) ∷ (longBody body, 5) ∷ []
 
 -- ---- of a kind of session
 
@@ -68,12 +67,27 @@ module _ (K : Kind) where
   unfoldable pub openRefusal : ℕ → ℕ → ℕ → ℕ
   openRefusal key rate tag = first (openRows (badRate (K .rates) rate) key tag)
 
-  abbrev pub rowsOf : Session → ℕ → ℕ → Bool → List (Bool × ℕ)
-  rowsOf s = pairRows (badRate (K .rates) (s .rate)) (badSize (s .tag)) (full (K .ceiling) (s .pairs) (s .calls))
+  -- what a wrap and an unwrap have in common
+  abbrev pub commonRows : Session → ℕ → ℕ → List (Bool × ℕ)
+  commonRows s header body =
+      ownRows (badRate (K .rates) (s .rate)) (badSize (s .tag)) (full (K .ceiling) (s .pairs) (s .calls)) ++ partRows header body
 
   unfoldable pub wrapRefusal : Session → ℕ → ℕ → ℕ → ℕ
-  wrapRefusal s header body out = first (rowsOf s header body (short out (body + s .tag)))
+  wrapRefusal s header body out = first (commonRows s header body ++ (short out (body + s .tag), 6) ∷ [])
+
+  -- an unwrap's rows before its tag's
+  abbrev pub readyRows : Session → ℕ → ℕ → ℕ → List (Bool × ℕ)
+  readyRows s header body out = commonRows s header body ++ (short out body, 6) ∷ []
 
   -- `other`: the tag is another than the recomputed one
   unfoldable pub unwrapRefusal : Session → ℕ → ℕ → ℕ → Bool → ℕ
-  unwrapRefusal s header body out other = first (rowsOf s header body (short out body) ++ (other, 8) ∷ [])
+  unwrapRefusal s header body out other = first (readyRows s header body out ++ (other, 8) ∷ [])
+
+  -- what a session and the lengths of a header and a body are where the rows that both calls have are passed
+  pub record Fits (s : Session) (header body : ℕ) : Type 0 where
+    pub rate : Rate (K .w) (s .rate)
+    pub tag : (leastSize ≤ s .tag) × (s .tag ≤ mostSize)
+    pub pairs : s .pairs < mostPairs
+    pub calls : s .calls ≤ K .ceiling
+    pub header-fits : header ≤ mostHeader
+    pub body-fits : body ≤ mostBody

@@ -1,12 +1,14 @@
 -- Sessions: what each call answers and leaves, for every input (document 01, "SpongeWrap" and "Refusal numbers").
-use Prim.Native.Nat.{ℕ, zero, suc, _+_, _-_}
+use Prim.Native.Nat.{ℕ, _+_, _-_}
 use mathlib.Core.List.{List, _++_}
 use mathlib.Core.Bool.{Bool, not}
 use lib.ListN.{length, drop}
+use Rattle.refusal.specs.Rows.{by}
+use Rattle.compare.specs.Same.{same}
 use Rattle.sponge.specs.Sponge.{zeros}
 use Rattle.duplex.specs.Strings.{blocks}
 use Rattle.spongewrap.specs.SpongeWrap.{keyed, ciphertext, tagged, left, plaintext}
-use Rattle.spongewrap.specs.Refusals.{openRefusal, wrapRefusal, unwrapRefusal, same}
+use Rattle.spongewrap.specs.Refusals.{openRefusal, wrapRefusal, unwrapRefusal}
 use Rattle.spongewrap.specs.Kinds.{Kind}
 use Rattle.spongewrap.specs.declared.Session.{Session}
 use Rattle.spongewrap.specs.declared.Answer.{Answer}
@@ -40,10 +42,9 @@ pub record Seen : Type 0 where
 abbrev pub seen : Answer → List ℕ → Seen
 seen a o = record { answer = a; out = o }
 
--- by the number: a refusal keeps the session s and the output o; else the session is s′ and x lies over the first bytes of o
+-- by the number n: a refusal keeps the session s and the output o; else the session is s′ and x lies over the first bytes of o
 unfoldable pub settled : ℕ → Session → List ℕ → Session → List ℕ → Seen
-settled zero s o s′ x = seen (record { number = 0; session = s′ }) (x ++ drop (length x) o)
-settled (suc n) s o s′ x = seen (record { number = suc n; session = s }) o
+settled n s o s′ x = seen (record { number = n; session = by n s s′ }) (by n o (x ++ drop (length x) o))
 
 module _ (K : Kind) where
   -- ---- open
@@ -51,19 +52,19 @@ module _ (K : Kind) where
   abbrev pub fresh : ℕ → ℕ → List ℕ → Session
   fresh R t key = record { lanes = keyed (K .w) (K .f) R key; rate = R; tag = t; pairs = 0; calls = blocks R (length key) }
 
-  unfoldable pub opened : ℕ → ℕ → ℕ → List ℕ → Answer
-  opened zero R t key = record { number = 0; session = fresh R t key }
-  opened (suc n) R t key = record { number = suc n; session = none }
-
   unfoldable pub opens : List ℕ → ℕ → ℕ → Answer
-  opens key R t = opened (openRefusal K (length key) R t) R t key
+  opens key R t =
+      record {
+        number = openRefusal K (length key) R t;
+        session = by (openRefusal K (length key) R t) none (fresh R t key);
+      }
 
   -- ---- an accepted pair
 
   unfoldable pub next : Session → List ℕ → List ℕ → Session
   next s h b = advanced s (left (K .w) (K .f) (s .rate) (s .lanes) h b (s .tag)) (length h) (length b)
 
-  -- what a pair is sealed to, the ciphertext and the tag; and the tag alone
+  -- what a pair is sealed to: its ciphertext, and its tag
   unfoldable pub sealing : Session → List ℕ → List ℕ → List ℕ
   sealing s h b = ciphertext (K .w) (K .f) (s .rate) (s .lanes) h b
 

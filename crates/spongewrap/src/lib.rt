@@ -1,17 +1,19 @@
 // SpongeWrap sessions: a key opens one, and pairs of a header and a body are sealed and opened in turn.
 // Every call answers a number, 0 or the refusal's, and a session: the advanced one, or the one that it took.
-pub mod refusal; // refusal.rt: the numbers, and the tests of each call in their order
+pub mod orders; // orders.rt: the limits, and the tests of each call in their order
 
 ghost use mathlib.Core.Path.{_≡_};
 ghost use mathlib.Core.List.{_++_};
 ghost use Prim.Native.Nat.{_+_, _<_, _≤_};
 ghost use lib.ListN.{length, drop};
+ghost use Rattle.refusal.specs.Rows.{first};
+ghost use Rattle.compare.specs.Same.{same};
 ghost use Rattle.keccak.specs.Rounds.{f1600};
 ghost use Rattle.duplex.specs.Duplex.{Rate, drawn, after};
-ghost use Rattle.duplex.specs.Strings.{blocks, absorbed, sealed};
+ghost use Rattle.duplex.specs.Strings.{blocks, absorbed, sealed, opened};
 ghost use Rattle.spongewrap.specs.SpongeWrap.{headed};
-ghost use Rattle.spongewrap.specs.Refusals.{same};
-ghost use Rattle.spongewrap.specs.Sessions.{none, opens, advanced, wraps, unwraps, seen};
+ghost use Rattle.spongewrap.specs.Refusals.{mostSize, mostHeader, mostBody, mostPairs, readyRows, Fits};
+ghost use Rattle.spongewrap.specs.Sessions.{none, opens, advanced, next, sealing, tagOf, wraps, unwraps, seen};
 ghost use Rattle.spongewrap.specs.Desk.{desk, defaultRate, defaultTag};
 
 // What a session is: the state, its settings, and how many pairs and permutation calls brought it here.
@@ -47,7 +49,7 @@ impl Session {
 pub fn open(key: &[u8], rate: u16, tag: u16) -> Answer
     ensures { λ r. ⌜ r ≡ opens desk (now (key .entry)) rate tag ⌝ }
 {
-    let number = refusal::of_open(key.len(), rate, tag);
+    let number = orders::of_open(key.len(), rate, tag);
     if number != 0 {
         let session = no_session();
         return Answer { number, session };
@@ -89,8 +91,7 @@ pub fn block_count(n: usize, rate: usize) -> u64
 
 // The session after an accepted pair that left `lanes`, by the lengths of its header and body.
 fn advanced(s: Session, lanes: [u64; 25], header: usize, body: usize) -> Session
-    requires { ⌜ (1 < s .rate) × (s .tag ≤ 256) × (s .pairs < 65535) × (s .calls ≤ 540991427) ⌝ }
-    requires { ⌜ (header ≤ 65535) × (body ≤ 1048576) ⌝ }
+    requires { ⌜ Fits desk s header body ⌝ }
     ensures { λ r. ⌜ r ≡ advanced s lanes header body ⌝ }
 {
     let rate = s.rate as usize;
@@ -125,44 +126,28 @@ fn seal_pair(a: [u64; 25], body: &[u8], n: usize, rate: usize, out: &mut [u8]) -
     duplex::drawn_into(b, rate, &mut out[at..e])
 }
 
-// Seals a pair: the ciphertext and then the tag go to the first bytes of `out`.
-pub fn wrap(s: Session, header: &[u8], body: &[u8], out: &mut [u8]) -> Answer
-    ensures { λ r. ⌜ seen r (now (out .exit)) ≡ wraps desk s (now (header .entry)) (now (body .entry)) (now (out .entry)) ⌝ }
+// A pair that fits sealed: the session after it.
+fn seal_next(s: Session, header: &[u8], body: &[u8], out: &mut [u8]) -> Session
+    requires { ⌜ Fits desk s (length (now header)) (length (now body)) × (length (now body) + s .tag ≤ length (now out)) ⌝ }
+    ensures { λ r. ⌜ (r ≡ next desk s (now (header .entry)) (now (body .entry))) × (now (out .exit) ≡ (sealing desk s (now (header .entry)) (now (body .entry)) ++ tagOf desk s (now (header .entry)) (now (body .entry))) ++ drop (length (now (body .entry)) + s .tag) (now (out .entry))) ⌝ }
 {
-    let number = refusal::of_wrap(s, header.len(), body.len(), out.len());
-    if number != 0 {
-        return Answer { number, session: s };
-    }
     let rate = s.rate as usize;
     let before = s.lanes;
     let head = headed(before, header, rate);
     let lanes = seal_pair(head, body, s.tag as usize, rate, out);
-    let session = advanced(s, lanes, header.len(), body.len());
+    advanced(s, lanes, header.len(), body.len())
+}
+
+// Seals a pair: the ciphertext and then the tag go to the first bytes of `out`.
+pub fn wrap(s: Session, header: &[u8], body: &[u8], out: &mut [u8]) -> Answer
+    ensures { λ r. ⌜ seen r (now (out .exit)) ≡ wraps desk s (now (header .entry)) (now (body .entry)) (now (out .entry)) ⌝ }
+{
+    let number = orders::of_wrap(s, header.len(), body.len(), out.len());
+    if number != 0 {
+        return Answer { number, session: s };
+    }
+    let session = seal_next(s, header, body, out);
     Answer { number: 0, session }
-}
-
-// Whether two strings are the same. Where their lengths are, the time does not go by where they differ.
-pub fn is_same(x: &[u8], y: &[u8]) -> bool
-    ensures { λ r. ⌜ r ≡ same (now (x .entry)) (now (y .entry)) ⌝ }
-{
-    if x.len() != y.len() {
-        return false;
-    }
-    difference(x, y) == 0
-}
-
-// 0 where two strings of one length are the same.
-fn difference(x: &[u8], y: &[u8]) -> u8
-    requires { ⌜ length (now x) ≡ length (now y) ⌝ }
-    ensures { λ r. ⌜ (r ≡ 0 → now (x .entry) ≡ now (y .entry)) × (now (x .entry) ≡ now (y .entry) → r ≡ 0) ⌝ }
-{
-    let mut d = 0u8;
-    let mut i = 0;
-    while i < x.len() {
-        d = d | (x[i] ^ y[i]);
-        i += 1;
-    }
-    d
 }
 
 // A tag looked at: whether it is the right one, and the state after the right one.
@@ -173,38 +158,52 @@ struct Checked {
 
 // Whether `tag` is the tag of n bytes that the state `a` gives.
 fn check_tag(a: [u64; 25], tag: &[u8], n: usize, rate: usize) -> Checked
-    requires { ⌜ Rate 64 rate × (n ≤ 256) ⌝ }
+    requires { ⌜ Rate 64 rate × (n ≤ mostSize) ⌝ }
     ensures { λ r. ⌜ (r .right ≡ same (now (tag .entry)) (drawn 64 f1600 rate a n)) × (r .lanes ≡ after 64 f1600 rate a n) ⌝ }
 {
     let mut due = [0u8; 256];
     let lanes = duplex::drawn_into(a, rate, &mut due[..n]);
-    let right = is_same(tag, &due[..n]);
+    let right = compare::is_same(tag, &due[..n]);
     Checked { right, lanes }
 }
 
-// Opens a pair: the body goes to the first bytes of `out`, once the tag has been found right.
-// The first pass over the ciphertext writes nothing, so a wrong tag releases nothing.
-pub fn unwrap(s: Session, header: &[u8], cipher: &[u8], tag: &[u8], out: &mut [u8]) -> Answer
+// Whether `tag` is the tag of n bytes that a ciphertext has, from the state that the header left. Nothing is written.
+fn check_pair(a: [u64; 25], cipher: &[u8], tag: &[u8], n: usize, rate: usize) -> Checked
+    requires { ⌜ Rate 64 rate × (n ≤ mostSize) ⌝ }
+    ensures { λ r. ⌜ (r .right ≡ same (now (tag .entry)) (drawn 64 f1600 rate (absorbed 64 f1600 rate a 1 0 (opened 64 f1600 rate a (now (cipher .entry)))) n)) × (r .lanes ≡ after 64 f1600 rate (absorbed 64 f1600 rate a 1 0 (opened 64 f1600 rate a (now (cipher .entry)))) n) ⌝ }
+{
+    check_tag(duplex::peeked(a, cipher, rate), tag, n, rate)
+}
+
+// A pair that fits opened. The tag is checked before anything is written, so a wrong one releases nothing.
+fn open_pair(s: Session, header: &[u8], cipher: &[u8], tag: &[u8], out: &mut [u8]) -> Answer
+    requires { ⌜ (first (readyRows desk s (length (now header)) (length (now cipher)) (length (now out))) ≡ 0) × Fits desk s (length (now header)) (length (now cipher)) × (length (now cipher) ≤ length (now out)) ⌝ }
     ensures { λ r. ⌜ seen r (now (out .exit)) ≡ unwraps desk s (now (header .entry)) (now (cipher .entry)) (now (tag .entry)) (now (out .entry)) ⌝ }
 {
-    let number = refusal::of_unwrap(s, header.len(), cipher.len(), out.len());
-    if number != 0 {
-        return Answer { number, session: s };
-    }
     let rate = s.rate as usize;
     let before = s.lanes;
     let head = headed(before, header, rate);
-    let state = duplex::peeked(head, cipher, rate);
-    let checked = check_tag(state, tag, s.tag as usize, rate);
+    let checked = check_pair(head, cipher, tag, s.tag as usize, rate);
     let right = checked.right;
     let lanes = checked.lanes;
     if !right {
         return Answer {
-            number: refusal::TAG,
+            number: refusal::WRONG_TAG,
             session: s,
         };
     }
     duplex::opened_into(head, cipher, rate, out);
     let session = advanced(s, lanes, header.len(), cipher.len());
     Answer { number: 0, session }
+}
+
+// Opens a pair: the body goes to the first bytes of `out`, once the tag has been found right.
+pub fn unwrap(s: Session, header: &[u8], cipher: &[u8], tag: &[u8], out: &mut [u8]) -> Answer
+    ensures { λ r. ⌜ seen r (now (out .exit)) ≡ unwraps desk s (now (header .entry)) (now (cipher .entry)) (now (tag .entry)) (now (out .entry)) ⌝ }
+{
+    let number = orders::of_unwrap(s, header.len(), cipher.len(), out.len());
+    if number != 0 {
+        return Answer { number, session: s };
+    }
+    open_pair(s, header, cipher, tag, out)
 }

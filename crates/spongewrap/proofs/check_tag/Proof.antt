@@ -6,7 +6,7 @@ use lib.ListN.{replicate}
 use lib.Seq.{length-take-le}
 use Rattle.keccak.specs.Rounds.{f1600}
 use Rattle.duplex.specs.Duplex.{after}
-use Rattle.spongewrap.specs.Refusals.{same}
+use Rattle.compare.specs.Same.{same}
 use Rattle.spongewrap.proofs.Steps.{front-fits, front-part, front-is}
 use Rattle.spongewrap.proofs.check_tag.Statement.{statement}
 use Rattle.spongewrap.proofs.check_tag.Tie as tie
