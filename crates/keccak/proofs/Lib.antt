@@ -1,3 +1,3 @@
-pub mod Rotation
 pub mod Rounds
+pub mod Rows
 pub mod States

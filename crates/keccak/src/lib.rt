@@ -1,14 +1,12 @@
 // Keccak-f[1600], the permutation of FIPS 202 on 25 lanes of 64 bits: lane (x, y) stands at x + 5 y.
 // Each step is a function of its own over arrays by value; compiled, they become one loop over the rounds.
 ghost use mathlib.Core.Path.{_≡_};
-ghost use Prim.Native.Nat.{_<_};
-ghost use lib.ListN.{take};
-ghost use Rattle.keccak.specs.Lanes.{rotl};
-ghost use Rattle.keccak.specs.Steps.{parities, effects, theta, rho, pi, chi, iota};
+ghost use Prim.Native.Nat.{_≤_};
+ghost use Rattle.keccak.specs.Steps.{parities, effects, spread, theta, rho, pi, chi, chi-row, iota};
 ghost use Rattle.keccak.specs.Tables.{offsets, constants};
 ghost use Rattle.keccak.specs.Rounds.{round, f1600};
 
-// The offsets of ρ, lane by lane.
+// The offsets of ρ, lane by lane; `rho` has them in its shifts.
 const OFFSETS: [u32; 25] = [
     0,
     1,
@@ -79,7 +77,7 @@ pub fn constant_table() -> [u64; 24]
     CONSTANTS
 }
 
-// θ, its first half: the parity of each column.
+// θ, its first part: the parity of each column.
 fn column_parities(a: [u64; 25]) -> [u64; 5]
     ensures { λ r. ⌜ r ≡ parities a ⌝ }
 {
@@ -92,7 +90,7 @@ fn column_parities(a: [u64; 25]) -> [u64; 5]
     ]
 }
 
-// θ, its second half: what each column takes from its two neighbours.
+// θ, its second part: what each column takes from its two neighbours.
 fn column_effects(c: [u64; 5]) -> [u64; 5]
     ensures { λ r. ⌜ r ≡ effects 64 c ⌝ }
 {
@@ -105,10 +103,10 @@ fn column_effects(c: [u64; 5]) -> [u64; 5]
     ]
 }
 
-pub fn theta(a: [u64; 25]) -> [u64; 25]
-    ensures { λ r. ⌜ r ≡ theta 64 a ⌝ }
+// θ, its last part: each lane takes the effect of its column.
+fn spread(a: [u64; 25], d: [u64; 5]) -> [u64; 25]
+    ensures { λ r. ⌜ r ≡ spread d a ⌝ }
 {
-    let d = column_effects(column_parities(a));
     [
         a[0] ^ d[0],
         a[1] ^ d[1],
@@ -138,47 +136,42 @@ pub fn theta(a: [u64; 25]) -> [u64; 25]
     ]
 }
 
-// A lane turned left by n. A turn by 0 is its own case: a shift by the whole width would be undefined.
-fn rotated(x: u64, n: u32) -> u64
-    requires { ⌜ n < 64 ⌝ }
-    ensures { λ r. ⌜ r ≡ rotl 64 x n ⌝ }
+pub fn theta(a: [u64; 25]) -> [u64; 25]
+    ensures { λ r. ⌜ r ≡ theta 64 a ⌝ }
 {
-    if n == 0 {
-        return x;
-    }
-    (x << n) | (x >> (64 - n))
+    spread(a, column_effects(column_parities(a)))
 }
 
+// ρ: each lane turned left by its offset. Lane 0 has offset 0 and stays: a shift by the whole width would be undefined.
 pub fn rho(a: [u64; 25]) -> [u64; 25]
     ensures { λ r. ⌜ r ≡ rho 64 a ⌝ }
 {
-    let n = OFFSETS;
     [
-        rotated(a[0], n[0]),
-        rotated(a[1], n[1]),
-        rotated(a[2], n[2]),
-        rotated(a[3], n[3]),
-        rotated(a[4], n[4]),
-        rotated(a[5], n[5]),
-        rotated(a[6], n[6]),
-        rotated(a[7], n[7]),
-        rotated(a[8], n[8]),
-        rotated(a[9], n[9]),
-        rotated(a[10], n[10]),
-        rotated(a[11], n[11]),
-        rotated(a[12], n[12]),
-        rotated(a[13], n[13]),
-        rotated(a[14], n[14]),
-        rotated(a[15], n[15]),
-        rotated(a[16], n[16]),
-        rotated(a[17], n[17]),
-        rotated(a[18], n[18]),
-        rotated(a[19], n[19]),
-        rotated(a[20], n[20]),
-        rotated(a[21], n[21]),
-        rotated(a[22], n[22]),
-        rotated(a[23], n[23]),
-        rotated(a[24], n[24]),
+        a[0],
+        (a[1] << 1) | (a[1] >> 63),
+        (a[2] << 62) | (a[2] >> 2),
+        (a[3] << 28) | (a[3] >> 36),
+        (a[4] << 27) | (a[4] >> 37),
+        (a[5] << 36) | (a[5] >> 28),
+        (a[6] << 44) | (a[6] >> 20),
+        (a[7] << 6) | (a[7] >> 58),
+        (a[8] << 55) | (a[8] >> 9),
+        (a[9] << 20) | (a[9] >> 44),
+        (a[10] << 3) | (a[10] >> 61),
+        (a[11] << 10) | (a[11] >> 54),
+        (a[12] << 43) | (a[12] >> 21),
+        (a[13] << 25) | (a[13] >> 39),
+        (a[14] << 39) | (a[14] >> 25),
+        (a[15] << 41) | (a[15] >> 23),
+        (a[16] << 45) | (a[16] >> 19),
+        (a[17] << 15) | (a[17] >> 49),
+        (a[18] << 21) | (a[18] >> 43),
+        (a[19] << 8) | (a[19] >> 56),
+        (a[20] << 18) | (a[20] >> 46),
+        (a[21] << 2) | (a[21] >> 62),
+        (a[22] << 61) | (a[22] >> 3),
+        (a[23] << 56) | (a[23] >> 8),
+        (a[24] << 14) | (a[24] >> 50),
     ]
 }
 
@@ -214,55 +207,26 @@ pub fn pi(a: [u64; 25]) -> [u64; 25]
     ]
 }
 
-// χ on one row: the first row of the step, which no other row enters.
-fn chi_row(b: [u64; 5]) -> [u64; 5]
-    ensures { λ r. ⌜ r ≡ take 5 (chi 64 b) ⌝ }
+// χ on one row in place: the five lanes from place i on, which are set aside.
+fn chi_row(a: [u64; 25], i: usize) -> [u64; 25]
+    requires { ⌜ i ≤ 20 ⌝ }
+    ensures { λ r. ⌜ r ≡ chi-row 64 i a ⌝ }
 {
-    [
-        b[0] ^ (!b[1] & b[2]),
-        b[1] ^ (!b[2] & b[3]),
-        b[2] ^ (!b[3] & b[4]),
-        b[3] ^ (!b[4] & b[0]),
-        b[4] ^ (!b[0] & b[1]),
-    ]
+    let mut b = a;
+    let row = [b[i], b[i + 1], b[i + 2], b[i + 3], b[i + 4]];
+    b[i] = row[0] ^ (!row[1] & row[2]);
+    b[i + 1] = row[1] ^ (!row[2] & row[3]);
+    b[i + 2] = row[2] ^ (!row[3] & row[4]);
+    b[i + 3] = row[3] ^ (!row[4] & row[0]);
+    b[i + 4] = row[4] ^ (!row[0] & row[1]);
+    b
 }
 
 // χ, the last row first: compiled in this order, a round moves fewer lanes between registers and the stack.
 pub fn chi(a: [u64; 25]) -> [u64; 25]
     ensures { λ r. ⌜ r ≡ chi 64 a ⌝ }
 {
-    let r4 = chi_row([a[20], a[21], a[22], a[23], a[24]]);
-    let r3 = chi_row([a[15], a[16], a[17], a[18], a[19]]);
-    let r2 = chi_row([a[10], a[11], a[12], a[13], a[14]]);
-    let r1 = chi_row([a[5], a[6], a[7], a[8], a[9]]);
-    let r0 = chi_row([a[0], a[1], a[2], a[3], a[4]]);
-    [
-        r0[0],
-        r0[1],
-        r0[2],
-        r0[3],
-        r0[4],
-        r1[0],
-        r1[1],
-        r1[2],
-        r1[3],
-        r1[4],
-        r2[0],
-        r2[1],
-        r2[2],
-        r2[3],
-        r2[4],
-        r3[0],
-        r3[1],
-        r3[2],
-        r3[3],
-        r3[4],
-        r4[0],
-        r4[1],
-        r4[2],
-        r4[3],
-        r4[4],
-    ]
+    chi_row(chi_row(chi_row(chi_row(chi_row(a, 20), 15), 10), 5), 0)
 }
 
 pub fn iota(a: [u64; 25], constant: u64) -> [u64; 25]
