@@ -1,15 +1,17 @@
 -- Laws of numbers of k bytes, each once over k.
 use mathlib.Core.Path.{_≡_, refl, sym, ap, _∙_}
 use mathlib.Core.List.{List, [], _∷_, _++_, append-assoc, append-nil}
-use Prim.Native.Nat.{ℕ, zero, suc, _+_, _-_, _*_, _/_, _%_, _^_, _≤_, _<_}
-use native.Mathlib.Nat.{add-zero, zero-add, add-suc, mul-assoc, add-mul, div-div-eq-div-mul, div-one, pow-succ', pow-suc, one-le-pow, zero-lt-suc}
+use Prim.Native.Nat.{ℕ, zero, suc, _+_, _*_, _/_, _%_, _^_, _≤_, _<_}
+use native.Mathlib.Nat.{add-zero, add-suc, mul-assoc, add-mul, div-div-eq-div-mul, div-one, pow-succ', pow-suc, one-le-pow, zero-lt-suc}
 use native.Mathlib.Numerals.{add-one}
 use native.Mathlib.Omega.{arith}
 use lib.Arith.{mod-mul}
-use lib.ListN.{length, getD, set, take, drop, length-append, length-drop, List·getD-append}
-use lib.Seq.{sets, sets-eq, length-sets, getD-set-same, getD-set-other, take-suc, getD-drop, drop-length, getD-append-add}
+use lib.ListN.{length, getD, set, take, drop, length-append, length-drop}
+use lib.Seq.{sets, sets-eq, length-take-le, take-suc, getD-drop, getD-at, getD-append-add}
 use Rattle.fields.specs.Numbers.{numberAt, bytesOf}
-use Rattle.fields.proofs.Stores.{sets-append, sets-more}
+use Rattle.fields.proofs.Stores.{sets-append}
+
+-- ---- a number in two parts
 
 -- a number of m + n bytes is its first m and its last n
 pub number-join : (m n : ℕ) (b : List ℕ) (at : ℕ) → numberAt (m + n) b at ≡ numberAt m b at * 256 ^ n + numberAt n b (at + m)
@@ -24,7 +26,7 @@ unfolding bytesOf
 length-bytesOf zero n = refl
 length-bytesOf (suc k) n = omega (arith, length-append (bytesOf k (n / 256)) (n % 256 ∷ []), length-bytesOf k (n / 256))
 
-pub bytes-join : (m n x : ℕ) → bytesOf (m + n) x ≡ bytesOf m (x / 256 ^ n) ++ bytesOf n x
+bytes-join : (m n x : ℕ) → bytesOf (m + n) x ≡ bytesOf m (x / 256 ^ n) ++ bytesOf n x
 unfolding bytesOf
 bytes-join m zero x = rw (add-zero m, div-one x) (sym (append-nil (bytesOf m x)))
 bytes-join m (suc n) x =
@@ -32,7 +34,7 @@ bytes-join m (suc n) x =
     (append-assoc (bytesOf m (x / (256 * 256 ^ n))) (bytesOf n (x / 256)) (x % 256 ∷ []))
 
 -- the last n bytes are those of the remainder
-pub bytes-low : (n x : ℕ) → bytesOf n (x % 256 ^ n) ≡ bytesOf n x
+bytes-low : (n x : ℕ) → bytesOf n (x % 256 ^ n) ≡ bytesOf n x
 unfolding bytesOf
 bytes-low zero x = refl
 bytes-low (suc n) x =
@@ -41,27 +43,7 @@ bytes-low (suc n) x =
     let q : x % 256 ^ suc n % 256 ≡ x % 256 = omega arith in
     rw (p, q, bytes-low n (x / 256))
 
--- a store past the number
-number-before : (k : ℕ) (b : List ℕ) (at j v : ℕ) → at + k ≤ j → numberAt k (set b j v) at ≡ numberAt k b at
-unfolding numberAt
-number-before zero b at j v h = refl
-number-before (suc k) b at j v h =
-    let g : getD (set b j v) (at + k) 0 ≡ getD b (at + k) 0 = getD-set-other b j (at + k) v 0 (λ e. omega arith) in
-    rw (number-before k b at j v (omega arith), g)
-
--- a number that was stored is read again
-pub number-put : (k : ℕ) (b : List ℕ) (at n : ℕ) → at + k ≤ length b → n < 256 ^ k → numberAt k (sets b at (bytesOf k n)) at ≡ n
-unfolding numberAt bytesOf
-number-put zero b at n h l = omega arith
-number-put (suc k) b at n h l =
-    let s : sets b at (bytesOf k (n / 256) ++ (n % 256 ∷ [])) ≡ set (sets b at (bytesOf k (n / 256))) (at + k) (n % 256) =
-    sym (sets-more b at (bytesOf k (n / 256)) (n % 256) (at + k) (ap (λ (i : ℕ). at + i) (sym (length-bytesOf k (n / 256))))) in
-    let i : at + k < length (sets b at (bytesOf k (n / 256))) = omega (arith, length-sets b at (bytesOf k (n / 256))) in
-    let q : n / 256 < 256 ^ k = omega (arith, pow-suc 256 k) in
-    rw (s, getD-set-same (sets b at (bytesOf k (n / 256))) (at + k) (n % 256) 0 i, number-before k (sets b at (bytesOf k (n / 256))) at (at + k) (n % 256) (omega arith), number-put k b at (n / 256) (omega arith) q)
-    (omega arith)
-
--- a number stored as its high and its low half
+-- a number stored as its high and its low part
 pub put-join : (m n : ℕ) (b c d : List ℕ) (at x : ℕ) → c ≡ sets b at (bytesOf m (x / 256 ^ n)) → d ≡ sets c (at + m) (bytesOf n (x % 256 ^ n))
     → d ≡ sets b at (bytesOf (m + n) x)
 put-join m n b c d at x e f =
@@ -81,6 +63,23 @@ put-two b at n h = let e : n / 256 % 256 ≡ n / 256 = omega arith in rw (e, add
 
 -- ---- numbers and bytes are one-to-one
 
+-- a number whose bytes stand in a list is read there
+pub number-bytes : (k n : ℕ) (p q : List ℕ) (at : ℕ) → n < 256 ^ k → length p ≡ at → numberAt k (p ++ (bytesOf k n ++ q)) at ≡ n
+unfolding numberAt bytesOf
+number-bytes zero n p q at h e = omega arith
+number-bytes (suc k) n p q at h e =
+    let high : List ℕ = bytesOf k (n / 256) in
+    let l : n / 256 < 256 ^ k = omega (arith, pow-suc 256 k) in
+    let low : getD (p ++ (high ++ (n % 256 ∷ q))) (at + k) 0 ≡ n % 256 =
+    rw (← e, getD-append-add p (high ++ (n % 256 ∷ q)) k 0) (getD-at high (n % 256) q 0 k (length-bytesOf k (n / 256))) in
+    rw (append-assoc high (n % 256 ∷ []) q, number-bytes k (n / 256) p (n % 256 ∷ q) at l e, low) (omega arith)
+
+-- and so is a number that was stored
+pub number-put : (k : ℕ) (b : List ℕ) (at n : ℕ) → at + k ≤ length b → n < 256 ^ k → numberAt k (sets b at (bytesOf k n)) at ≡ n
+number-put k b at n h l =
+    let e : length (bytesOf k n) ≡ k = length-bytesOf k n in
+    rw (sets-eq (bytesOf k n) b at (omega arith), append-assoc) (number-bytes k n (take at b) _ at l (length-take-le at b (omega arith)))
+
 -- the bytes of a number that is read are those that it was read from
 pub bytes-number : (k : ℕ) (b : List ℕ) (at : ℕ) → at + k ≤ length b → ((i : ℕ) → getD b i 0 < 256) → bytesOf k (numberAt k b at) ≡ take k (drop at b)
 unfolding bytesOf numberAt
@@ -91,18 +90,3 @@ bytes-number (suc k) b at h l =
     let r : (numberAt k b at * 256 + x) % 256 ≡ x = omega (arith, l (at + k)) in
     let n : k < length (drop at b) = omega (arith, length-drop at b) in
     rw (q, r, bytes-number k b at (omega arith) l, take-suc (drop at b) k 0 n, getD-drop at b k 0)
-
--- a number whose bytes stand in a list is read there
-number-within : (k : ℕ) (p x q : List ℕ) → k ≤ length x → numberAt k (p ++ (x ++ q)) (length p) ≡ numberAt k x 0
-unfolding numberAt
-number-within zero p x q h = refl
-number-within (suc k) p x q h =
-    rw (number-within k p x q (omega arith), getD-append-add p (x ++ q) k 0, zero-add, List·getD-append x q 0 k h)
-
-pub number-bytes : (k n : ℕ) (p q : List ℕ) (at : ℕ) → n < 256 ^ k → length p ≡ at → numberAt k (p ++ (bytesOf k n ++ q)) at ≡ n
-number-bytes k n p q at h e =
-    let l : length (bytesOf k n) ≡ k = length-bytesOf k n in
-    let s : sets (bytesOf k n) 0 (bytesOf k n) ≡ bytesOf k n =
-    sets-eq (bytesOf k n) (bytesOf k n) 0 (omega arith)
-    ∙ rw (zero-add, drop-length (bytesOf k n)) (append-nil (bytesOf k n)) in
-    rw (← e) (number-within k p (bytesOf k n) q (omega arith) ∙ (rw s at (number-put k (bytesOf k n) 0 n (omega arith) h)))

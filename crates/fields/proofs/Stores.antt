@@ -1,21 +1,17 @@
 -- Stores of lists, `sets l i xs`, one after the other.
 use mathlib.Core.Path.{_≡_, refl, sym, ap, _∙_}
 use mathlib.Core.List.{List, [], _∷_, _++_}
-use Prim.Native.Nat.{ℕ, zero, suc, _+_, _-_, _≤_, _<_}
+use Prim.Native.Nat.{ℕ, suc, _+_, _≤_, _<_}
 use native.Mathlib.Nat.{add-zero, add-suc, suc-add}
 use native.Mathlib.Numerals.{add-one}
 use native.Mathlib.Omega.{arith}
-use lib.ListN.{length, getD, set, take, drop}
-use lib.Seq.{sets, length-sets, sets-eq, take-suc, take-all, take-length, length-take-le, getD-set-other, getD-set-same}
+use lib.ListN.{length, getD, set, take}
+use lib.Seq.{sets, take-suc, take-all, length-take-le, getD-set-other}
 
 -- neighbouring stores join
 pub sets-append : {A : Type 0} (l : List A) (i : ℕ) (xs ys : List A) (j : ℕ) → j ≡ i + length xs → sets (sets l i xs) j ys ≡ sets l i (xs ++ ys)
 sets-append l i [] ys j e = ap (λ (k : ℕ). sets l k ys) (e ∙ add-zero i)
 sets-append l i (x ∷ xs) ys j e = sets-append (set l i x) (suc i) xs ys j (e ∙ add-suc i (length xs) ∙ sym (suc-add i (length xs)))
-
--- a store of one element behind xs
-pub sets-more : {A : Type 0} (l : List A) (i : ℕ) (xs : List A) (y : A) (j : ℕ) → j ≡ i + length xs → set (sets l i xs) j y ≡ sets l i (xs ++ (y ∷ []))
-sets-more l i xs y j e = sets-append l i xs (y ∷ []) j e
 
 -- what stands elsewhere is not touched
 pub getD-sets-before : {A : Type 0} (xs l : List A) (i j : ℕ) (d : A) → j < i → getD (sets l i xs) j d ≡ getD l j d
@@ -32,7 +28,7 @@ getD-sets-after (x ∷ xs) l i j d h =
 pub store-more : (b r x : List ℕ) (at i : ℕ) → r ≡ sets b at (take i x) → i < length x → set r (at + i) (getD x i 0) ≡ sets b at (take (i + 1) x)
 store-more b r x at i e h =
     let l : at + i ≡ at + length (take i x) = omega (arith, length-take-le i x (omega arith)) in
-    rw (e, add-one, take-suc x i 0 h) (sets-more b at (take i x) (getD x i 0) (at + i) l)
+    rw (e, add-one, take-suc x i 0 h) (sets-append b at (take i x) (getD x i 0 ∷ []) (at + i) l)
 
 pub store-done : (b r x : List ℕ) (at i : ℕ) → r ≡ sets b at (take i x) → length x ≤ i → r ≡ sets b at x
 store-done b r x at i e h = rw (e, take-all i x h)

@@ -13,5 +13,4 @@ returns : tie.Need-returns
 returns c = put-two (c .args .b .now) (c .args .at) (c .args .n) (omega arith)
 
 pub put-u16-spec : {M : Type 1} → statement M
-put-u16-spec =
-    tie.close (tie.spec (λ c. search needs) (λ c. search needs) (λ c. search needs) (λ c. search needs) slice-write-b-2 (λ c. search needs) returns)
+put-u16-spec = tie.close (tie.spec (λ c. search needs) (λ c. search needs) (λ c. search needs) (λ c. search needs) slice-write-b-2 (λ c. search needs) returns)

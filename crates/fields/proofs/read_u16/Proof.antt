@@ -11,11 +11,4 @@ returns c =
     omega (arith, number-two (a .b .now) (a .at))
 
 pub read-u16-spec : {M : Type 1} → statement M
-read-u16-spec =
-    tie.close
-    (tie.spec
-    (λ c. search needs)
-    (λ c. search needs)
-    (λ c. search needs)
-    (λ c κs. search needs)
-    returns)
+read-u16-spec = tie.close (tie.spec (λ c. search needs) (λ c. search needs) (λ c. search needs) (λ c κs. search needs) returns)

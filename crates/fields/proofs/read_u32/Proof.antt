@@ -11,6 +11,4 @@ returns c =
     omega (arith, number-join 2 2 (a .b .now) (a .at))
 
 pub read-u32-spec : {M : Type 1} → statement M
-read-u32-spec =
-    tie.close
-    (tie.spec (λ c κs. search needs) (λ c. search needs) (λ c κs. search needs) (λ c κs. search needs) returns)
+read-u32-spec = tie.close (tie.spec (λ c κs. search needs) (λ c. search needs) (λ c κs. search needs) (λ c κs. search needs) returns)

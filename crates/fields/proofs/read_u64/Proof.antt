@@ -11,6 +11,4 @@ returns c =
     omega (arith, number-join 4 4 (a .b .now) (a .at))
 
 pub read-u64-spec : {M : Type 1} → statement M
-read-u64-spec =
-    tie.close
-    (tie.spec (λ c κs. search needs) (λ c. search needs) (λ c κs. search needs) (λ c κs. search needs) returns)
+read-u64-spec = tie.close (tie.spec (λ c κs. search needs) (λ c. search needs) (λ c κs. search needs) (λ c κs. search needs) returns)
