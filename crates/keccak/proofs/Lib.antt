@@ -1,3 +1,4 @@
+pub mod Outcomes
 pub mod Rounds
 pub mod Rows
 pub mod States
