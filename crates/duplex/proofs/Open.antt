@@ -1,29 +1,23 @@
--- Opening: what a loop over a ciphertext's pieces has written, or would have, and the plaintext's length.
-use mathlib.Core.Path.{_≡_, refl, sym, ap, _∙_}
+-- Opening is a loop over the ciphertext's pieces: each is unmasked by the state before it, and what it gives is absorbed and written.
+use mathlib.Core.Path.{_≡_, refl, ap, _∙_}
 use mathlib.Core.List.{List, [], _∷_, _++_}
-use Prim.Native.Nat.{ℕ, zero, suc, _+_, _-_, _*_, _≤_, _<_}
-use native.Mathlib.Nat.{suc-mul, zero-mul}
+use Prim.Native.Nat.{ℕ, zero, suc, _-_, _*_, _≤_, _<_}
+use native.Mathlib.Nat.{suc-mul, le-refl}
 use native.Mathlib.Omega.{arith}
-use lib.ListN.{length, take, drop, length-append}
+use lib.ListN.{length}
 use Rattle.sponge.specs.Bytes.{bytes}
-use Rattle.sponge.specs.Pieces.{blocksOf, before}
+use Rattle.sponge.specs.Pieces.{piece, blocksOf, before}
 use Rattle.sponge.specs.Sponge.{absorb}
-use Rattle.sponge.proofs.Pieces.{piece-mid, piece-last, before-is, absorb-more, laid}
+use Rattle.sponge.proofs.Pieces.{before-low, piece-end, blocksOf-front, length-piece, absorb-more}
+use Rattle.sponge.proofs.Turns.{reached, wrote, written, length-wrote, length-written, piece-written}
 use Rattle.duplex.specs.Duplex.{framed, duplexing}
-use Rattle.duplex.specs.Strings.{blocks, front, cut, xored, absorbed, unmasked, opened}
-use Rattle.duplex.proofs.Strings.{piece-end, blocksOf-front, length-front, length-all}
+use Rattle.duplex.specs.Strings.{blocks, front, xored, absorbed, unmasked, opened}
+use Rattle.duplex.proofs.Strings.{length-xored, taken, absorbed-turns}
+use Rattle.duplex.proofs.Seal.{mask, mask-even}
 
--- what a loop that opens c has written to out, which held d, where it stands at `at`, with the state st
-pub record Opened (w : ℕ) (f : List ℕ → List ℕ) (R : ℕ) (a c d : List ℕ) (at : ℕ) (st out : List ℕ) : Type 0 where
-  pub k : ℕ
-  pub at-is : at ≡ k * (R - 1)
-  pub st-is : st ≡ absorb w f a (front R 1 (unmasked w f R a c k) k)
-  pub out-is : out ≡ unmasked w f R a c k ++ drop at d
-
--- the same of a loop that writes nothing: as if it had written over c
-pub record Peeked (w : ℕ) (f : List ℕ → List ℕ) (R : ℕ) (a c : List ℕ) (at : ℕ) (st : List ℕ) : Type 0 where
-  pub out : List ℕ
-  pub opened : Opened w f R a c c at st out
+-- the state after a turn that unmasks the piece p and takes it with the frame bit b
+abbrev pub taken-unmasked : ℕ → (List ℕ → List ℕ) → ℕ → ℕ → List ℕ → List ℕ → List ℕ
+taken-unmasked w f R b st p = duplexing w f R st (mask w st p) b
 
 -- the blocks of a string whose whole pieces are P and whose next one is X
 front-next : (R b : ℕ) (P X : List ℕ) (k : ℕ) → length P ≡ k * (R - 1) → length X ≤ R - 1
@@ -33,67 +27,48 @@ front-next R b P X k h l =
     rw (blocksOf-front (R - 1) (framed R b) P X k (omega arith), piece-end (R - 1) P X k h l)
 
 module _ (w : ℕ) (f : List ℕ → List ℕ) (R : ℕ) (a c : List ℕ) where
-  pub length-unmasked : (k : ℕ) → k * (R - 1) ≤ length c → length (unmasked w f R a c k) ≡ k * (R - 1)
-  unfolding unmasked
-  length-unmasked = length-front (R - 1) c (unmasked w f R a c) _ refl (λ k. refl)
+  -- states and plaintext, k pieces of it: the states are those that absorbing the plaintext leaves
+  unmasked-is : (k : ℕ) → k * (R - 1) ≤ length c
+      → (unmasked w f R a c k ≡ wrote (R - 1) (taken-unmasked w f R 1) (mask w) c a k) × (absorb w f a (front R 1 (unmasked w f R a c k) k) ≡ reached (R - 1) (taken-unmasked w f R 1) c a k)
+  unfolding unmasked wrote reached front blocksOf absorb duplexing
+  unmasked-is zero h = (refl, refl)
+  unmasked-is (suc k) h =
+      let i = unmasked-is k (omega (arith, suc-mul k (R - 1))) in
+      let P : List ℕ = wrote (R - 1) (taken-unmasked w f R 1) (mask w) c a k in
+      let z : List ℕ = bytes w (reached (R - 1) (taken-unmasked w f R 1) c a k) in
+      let X : List ℕ = xored (piece (R - 1) c k) z in
+      let e : unmasked w f R a c (suc k) ≡ P ++ X = rw (i .1, i .0) in
+      let lp : length P ≡ k * (R - 1) = length-wrote (R - 1) (taken-unmasked w f R 1) (mask w) c a (mask-even w (R - 1)) k (omega (arith, suc-mul k (R - 1))) in
+      let lx : length X ≤ R - 1 = omega (arith, length-xored (piece (R - 1) c k) z, length-piece (R - 1) c k) in
+      (e, rw (e, front-next R 1 P X k lp lx, absorb-more, ← i .0, i .1))
+
+  pub opened-written : opened w f R a c ≡ written (R - 1) (taken-unmasked w f R 1) (mask w) c a
+  unfolding opened written wrote unmasked blocks
+  opened-written =
+      let k : ℕ = before (R - 1) (length c) in
+      let e = unmasked-is k (omega (arith, before-low (R - 1) (length c))) in
+      rw (e .1, e .0)
 
   pub length-opened : 1 < R → length (opened w f R a c) ≡ length c
-  unfolding opened unmasked blocks
-  length-opened h = length-all (R - 1) c (unmasked w f R a c) _ refl (λ k. refl) (omega arith)
+  length-opened h =
+      ap length opened-written ∙ length-written (R - 1) (taken-unmasked w f R 1) (mask w) c a (mask-even w (R - 1)) (omega arith)
 
-  pub opened-none : (d : List ℕ) → Opened w f R a c d 0 a d
-  unfolding unmasked front blocksOf absorb
-  opened-none d = record { k = 0; at-is = sym (zero-mul (R - 1)); st-is = refl; out-is = refl }
+  -- a piece of the plaintext
+  pub opening-piece : (k : ℕ) → k ≤ before (R - 1) (length c)
+      → piece (R - 1) (opened w f R a c) k ≡ mask w (reached (R - 1) (taken-unmasked w f R 1) c a k) (piece (R - 1) c k)
+  opening-piece k h = rw opened-written (piece-written (R - 1) (taken-unmasked w f R 1) (mask w) c a (mask-even w (R - 1)) k h)
 
-  pub opened-more : (d : List ℕ) (at e : ℕ) (st st′ out X : List ℕ) → Opened w f R a c d at st out → e ≡ at + (R - 1) → e ≤ length c
-      → st′ ≡ duplexing w f R st X 1 → X ≡ xored (take (e - at) (drop at c)) (bytes w st)
-      → Opened w f R a c d e st′ (take at out ++ (X ++ drop (e - at) (drop at out)))
-  unfolding unmasked duplexing
-  opened-more d at e st st′ out X r h l t x =
-      let k = r .k in
-      let P : List ℕ = unmasked w f R a c k in
-      let n : suc k * (R - 1) ≡ k * (R - 1) + (R - 1) = suc-mul k (R - 1) in
-      let lp : length P ≡ k * (R - 1) = length-unmasked k (omega arith) in
-      let q : unmasked w f R a c (suc k) ≡ P ++ X = rw (x, piece-mid (R - 1) c k at e (r .at-is) h, r .st-is) in
-      let lq : length (unmasked w f R a c (suc k)) ≡ suc k * (R - 1) = length-unmasked (suc k) (omega arith) in
-      record {
-        k = suc k;
-        at-is = omega arith;
-        st-is = rw (q, front-next R 1 P X k lp (omega (arith, ap length q, length-append P X)), absorb-more, t, r .st-is);
-        out-is = laid P X d out at (e - at) e (r .out-is) (omega arith) (omega arith) ∙ rw q;
-      }
+  -- opening goes through the states that absorbing the plaintext goes through
+  pub opening-reached : (k : ℕ) → k ≤ before (R - 1) (length c)
+      → reached (R - 1) (taken-unmasked w f R 1) c a k ≡ reached (R - 1) (taken w f R 1) (opened w f R a c) a k
+  unfolding reached
+  opening-reached zero h = refl
+  opening-reached (suc k) h = rw (opening-piece k (omega arith), opening-reached k (omega arith))
 
-  module _ (d : List ℕ) (at : ℕ) (st out X : List ℕ) (r : Opened w f R a c d at st out) (h : 1 < R) (l : at ≤ length c - 1) (m : length c - at ≤ R - 1)
-      (x : X ≡ xored (take (length c - at) (drop at c)) (bytes w st)) where
-    opened-is : opened w f R a c ≡ unmasked w f R a c (r .k) ++ X
-    unfolding opened unmasked blocks
-    opened-is =
-        rw (before-is (R - 1) (length c) (r .k) at (omega arith) (r .at-is) l m, x, piece-last (R - 1) c (r .k) at (r .at-is) m, r .st-is)
-
-    pub opened-last : take at out ++ (X ++ drop (length c - at) (drop at out)) ≡ opened w f R a c ++ drop (length c) d
-    opened-last =
-        rw opened-is (laid (unmasked w f R a c (r .k)) X d out at (length c - at) (length c) (r .out-is) (omega (arith, length-unmasked (r .k) (omega arith))) (omega arith))
-
-    -- the state that it leaves
-    pub opened-state : (st′ : List ℕ) → st′ ≡ duplexing w f R st X 0 → st′ ≡ absorbed w f R a 1 0 (opened w f R a c)
-    unfolding absorbed cut duplexing front
-    opened-state st′ t =
-        let k = r .k in
-        let P : List ℕ = unmasked w f R a c k in
-        let lp : length P ≡ k * (R - 1) = length-unmasked k (omega arith) in
-        let lo : length (P ++ X) ≡ length c = rw (← opened-is) (length-opened h) in
-        let lx : length X ≤ R - 1 = omega (arith, length-append P X) in
-        rw (opened-is, lo, before-is (R - 1) (length c) k at (omega arith) (r .at-is) l m, blocksOf-front (R - 1) (framed R 1) P X k (omega arith), piece-end (R - 1) P X k lp lx, absorb-more, ← r .st-is) t
-
-  -- ---- with nothing written
-
-  pub peeked-none : Peeked w f R a c 0 a
-  peeked-none = record { out = c; opened = opened-none c }
-
-  pub peeked-more : (at e : ℕ) (st st′ : List ℕ) → Peeked w f R a c at st → e ≡ at + (R - 1) → e ≤ length c
-      → st′ ≡ duplexing w f R st (xored (take (e - at) (drop at c)) (bytes w st)) 1 → Peeked w f R a c e st′
-  peeked-more at e st st′ r h l t = record { out = _; opened = opened-more c at e st st′ (r .out) _ (r .opened) h l t refl }
-
-  pub peeked-last : (at : ℕ) (st st′ : List ℕ) → Peeked w f R a c at st → 1 < R → at ≤ length c - 1 → length c - at ≤ R - 1
-      → st′ ≡ duplexing w f R st (xored (take (length c - at) (drop at c)) (bytes w st)) 0 → st′ ≡ absorbed w f R a 1 0 (opened w f R a c)
-  peeked-last at st st′ r h l m t = opened-state c at st (r .out) _ (r .opened) h l m refl st′ t
+  -- the last piece
+  pub opened-turns : 1 < R
+      → let k = before (R - 1) (length c) in taken-unmasked w f R 0 (reached (R - 1) (taken-unmasked w f R 1) c a k) (piece (R - 1) c k) ≡ absorbed w f R a 1 0 (opened w f R a c)
+  opened-turns h =
+      let k = before (R - 1) (length c) in
+      rw (← opening-piece k (le-refl k), opening-reached k (le-refl k))
+      (rw (length-opened h) at (absorbed-turns w f R a 1 0 (opened w f R a c)))

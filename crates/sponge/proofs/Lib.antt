@@ -2,6 +2,7 @@ pub mod Table
 pub mod Bytes
 pub mod Padding
 pub mod Pieces
+pub mod Turns
 pub mod Squeeze
 pub mod Outcomes
 pub mod PadBits

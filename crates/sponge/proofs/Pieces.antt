@@ -1,12 +1,12 @@
--- A string taken in pieces of m bytes: where a loop over them stands, and what a turn and the end do.
+-- A string cut into pieces of m bytes: what a piece holds, which one is the last, and the blocks that the pieces are put into.
 use mathlib.Core.Path.{_≡_, refl, sym}
 use mathlib.Core.List.{List, [], _∷_, _++_, append-assoc, foldl-append}
-use Prim.Native.Nat.{ℕ, zero, suc, _+_, _-_, _*_, _/_, _≤_, _<_}
-use native.Mathlib.Nat.{div-eq-of-lt-le, suc-mul, zero-mul}
+use Prim.Native.Nat.{ℕ, zero, suc, _+_, _-_, _*_, _/_, _≤_, _<_, min}
+use native.Mathlib.Nat.{div-eq-of-lt-le, div-mul-le-self, lt-div-mul-add, suc-mul}
 use native.Mathlib.Numerals.{add-one}
 use native.Mathlib.Omega.{arith}
-use lib.ListN.{length, take, drop, length-append, length-drop}
-use lib.Seq.{take-at, drop-at, drop-drop, take-all}
+use lib.ListN.{length, take, drop, length-append, length-take, length-drop}
+use lib.Seq.{take-at, drop-at, drop-drop, take-all, take-append-le, drop-append-le}
 use Rattle.sponge.specs.Pieces.{piece, blocksOf, before}
 use Rattle.sponge.specs.Sponge.{absorbBlock, absorb}
 
@@ -21,6 +21,12 @@ unfolding piece
 piece-last m s k at h l =
     rw (take-all (length s - at) (drop at s) (omega (arith, length-drop at s)), ← h, take-all m (drop at s) (omega (arith, length-drop at s)))
 
+pub length-piece : (m : ℕ) (s : List ℕ) (k : ℕ) → length (piece m s k) ≡ min m (length s - k * m)
+unfolding piece
+length-piece m s k = rw (length-take, length-drop)
+
+-- ---- which piece is the last
+
 -- a loop that goes on while m bytes or more are left ends at what is left over, which is shorter than m
 pub rest-is : (m n k at : ℕ) → at ≡ k * m → at ≤ n → n - at < m → n / m ≡ k
 rest-is m n k at h b l =
@@ -32,12 +38,41 @@ pub before-is : (m n k at : ℕ) → 0 < m → at ≡ k * m → at ≤ n - 1 →
 unfolding before
 before-is m n k at p h b l = rest-is m (n - 1) k at h b (omega arith)
 
--- ---- absorbing the pieces
+-- where the last piece begins, and that no byte lies behind it
+pub before-low : (m n : ℕ) → before m n * m ≤ n - 1
+unfolding before
+before-low m n = div-mul-le-self (n - 1) m
+
+pub before-high : (m n : ℕ) → 0 < m → n ≤ before m n * m + m
+unfolding before
+before-high m n h = omega (arith, lt-div-mul-add {a = n - 1} {b = m} h)
+
+-- ---- the pieces of a string made of two: those within the first, and the one that is the second
+
+pub piece-front : (m : ℕ) (s t : List ℕ) (k : ℕ) → suc k * m ≤ length s → piece m (s ++ t) k ≡ piece m s k
+unfolding piece
+piece-front m s t k h =
+    let i : k * m ≤ length s = omega (arith, suc-mul k m) in
+    let j : m ≤ length (drop (k * m) s) = omega (arith, suc-mul k m, length-drop (k * m) s) in
+    rw (drop-append-le (k * m) s t i, take-append-le m (drop (k * m) s) t j)
+
+pub piece-end : (m : ℕ) (s t : List ℕ) (k : ℕ) → length s ≡ k * m → length t ≤ m → piece m (s ++ t) k ≡ t
+unfolding piece
+piece-end m s t k h l = rw (drop-at s t (k * m) h, take-all m t l)
+
+-- ---- the blocks that the pieces are put into
 
 pub length-blocksOf : (m : ℕ) (g : List ℕ → List ℕ) (s : List ℕ) (k : ℕ) → length (blocksOf m g s k) ≡ k
 unfolding blocksOf
 length-blocksOf m g s zero = refl
 length-blocksOf m g s (suc k) = omega (arith, length-append (blocksOf m g s k) (g (piece m s k) ∷ []), length-blocksOf m g s k)
+
+pub blocksOf-front : (m : ℕ) (g : List ℕ → List ℕ) (s t : List ℕ) (k : ℕ) → k * m ≤ length s → blocksOf m g (s ++ t) k ≡ blocksOf m g s k
+unfolding blocksOf
+blocksOf-front m g s t zero h = refl
+blocksOf-front m g s t (suc k) h =
+    let i : k * m ≤ length s = omega (arith, suc-mul k m) in
+    rw (blocksOf-front m g s t k i, piece-front m s t k h)
 
 -- one list of blocks after another
 pub absorb-append : (w : ℕ) (f : List ℕ → List ℕ) (a : List ℕ) (B C : List (List ℕ)) → absorb w f a (B ++ C) ≡ absorb w f (absorb w f a B) C
@@ -49,40 +84,6 @@ pub absorb-more : (w : ℕ) (f : List ℕ → List ℕ) (a : List ℕ) (B : List
     → absorb w f a (B ++ (b ∷ [])) ≡ absorbBlock w f (absorb w f a B) b
 unfolding absorb
 absorb-more w f a B b = absorb-append w f a B (b ∷ [])
-
--- what a loop has absorbed where it stands at `at`, with the state st: the pieces before, each put into a block by g
-pub record Ran (w : ℕ) (f : List ℕ → List ℕ) (m : ℕ) (g : List ℕ → List ℕ) (a s : List ℕ) (at : ℕ) (st : List ℕ) : Type 0 where
-  pub k : ℕ
-  pub at-is : at ≡ k * m
-  pub st-is : st ≡ absorb w f a (blocksOf m g s k)
-
-module _ (w : ℕ) (f : List ℕ → List ℕ) (m : ℕ) (g : List ℕ → List ℕ) (a s : List ℕ) where
-  pub ran-none : Ran w f m g a s 0 a
-  unfolding absorb blocksOf
-  ran-none = record { k = 0; at-is = sym (zero-mul m); st-is = refl }
-
-  pub ran-more : (at e : ℕ) (st st′ : List ℕ) → Ran w f m g a s at st → e ≡ at + m → st′ ≡ absorbBlock w f st (g (take (e - at) (drop at s))) → Ran w f m g a s e st′
-  unfolding blocksOf
-  ran-more at e st st′ r h d =
-      record {
-        k = suc (r .k);
-        at-is = omega (arith, suc-mul (r .k) m);
-        st-is = rw (d, piece-mid m s (r .k) at e (r .at-is) h, r .st-is, absorb-more);
-      }
-
-  -- the last piece of a string that is cut into pieces of 1 to m bytes, put into its block by h
-  pub ran-last : (h : List ℕ → List ℕ) (at : ℕ) (st st′ : List ℕ) → Ran w f m g a s at st → 0 < m → at ≤ length s - 1 → length s - at ≤ m
-      → st′ ≡ absorbBlock w f st (h (take (length s - at) (drop at s)))
-      → st′ ≡ absorb w f a (blocksOf m g s (before m (length s)) ++ (h (piece m s (before m (length s))) ∷ []))
-  ran-last h at st st′ r p b l d =
-      rw (d, piece-last m s (r .k) at (r .at-is) l, r .st-is, before-is m (length s) (r .k) at p (r .at-is) b l, absorb-more)
-
-  -- the rest of a string whose whole pieces have m bytes, put into its block by h
-  pub ran-rest : (h : List ℕ → List ℕ) (at : ℕ) (st st′ : List ℕ) → Ran w f m g a s at st → at ≤ length s → length s - at < m
-      → st′ ≡ absorbBlock w f st (h (take (length s - at) (drop at s)))
-      → st′ ≡ absorb w f a (blocksOf m g s (length s / m) ++ (h (piece m s (length s / m)) ∷ []))
-  ran-rest h at st st′ r b l d =
-      rw (d, piece-last m s (r .k) at (r .at-is) (omega arith), r .st-is, rest-is m (length s) (r .k) at (r .at-is) b l, absorb-more)
 
 -- ---- writing in pieces
 

@@ -1,81 +1,87 @@
--- A loop that squeezes: m bytes of each state, and `next` from one state to the following.
+-- Squeezing is a loop over pieces too: m bytes of each state, and `next` from one state to the following. Of the string that it
+-- goes over, the output as it was lent, only the lengths count.
 use mathlib.Core.Path.{_≡_, refl, sym, ap, _∙_}
-use mathlib.Core.List.{List, _++_}
-use Prim.Native.Nat.{ℕ, zero, suc, _+_, _-_, _*_, _/_, _≤_, _<_}
-use native.Mathlib.Nat.{suc-mul, zero-mul, lt-div-mul-add}
+use mathlib.Core.List.{List, [], _∷_, _++_}
+use Prim.Native.Nat.{ℕ, zero, suc, _+_, _-_, _*_, _/_, _≤_, _<_, min}
+use native.Mathlib.Nat.{suc-mul, le-refl, zero-min, min-zero, suc-min-suc}
 use native.Mathlib.Omega.{arith}
-use lib.ListN.{length, take, drop, length-append, length-drop}
-use lib.Seq.{length-take-le, take-append-add, take-take}
+use lib.ListN.{length, take, drop, replicate, length-take, length-drop, length-replicate}
+use lib.Seq.{length-take-le, take-nil, take-append-add}
 use Rattle.sponge.specs.Bytes.{bytes}
-use Rattle.sponge.specs.Pieces.{before}
+use Rattle.sponge.specs.Pieces.{piece, before}
 use Rattle.sponge.specs.Sponge.{iterate, stream, squeeze}
 use Rattle.sponge.proofs.Table.{length-table, whole}
-use Rattle.sponge.proofs.Pieces.{before-is, laid}
+use Rattle.sponge.proofs.Pieces.{length-piece, before-low}
+use Rattle.sponge.proofs.Turns.{reached, ran-last, wrote, written, Wrote, wrote-more, wrote-last, length-wrote, length-written}
 
 pub length-bytes : (w : ℕ) (a : List ℕ) → length (bytes w a) ≡ 25 * (w / 8)
 unfolding bytes
 length-bytes w a = length-table (25 * (w / 8)) _
 
--- a part of out has the length that its ends say
-length-mid : (at e : ℕ) (out : List ℕ) → at ≤ e → e ≤ length out → length (take (e - at) (drop at out)) ≡ e - at
-length-mid at e out h l = length-take-le (e - at) (drop at out) (omega (arith, length-drop at out))
+-- what a turn makes of state and piece: the next state, and as many bytes of the state as the piece has
+abbrev pub onward : (List ℕ → List ℕ) → List ℕ → List ℕ → List ℕ
+onward next st p = next st
 
--- what a loop has written to out, which held d, where it stands at `at`, with the state st
-pub record Gave (w : ℕ) (next : List ℕ → List ℕ) (m : ℕ) (a d : List ℕ) (at : ℕ) (st out : List ℕ) : Type 0 where
-  pub k : ℕ
-  pub at-is : at ≡ k * m
-  pub st-is : st ≡ iterate next a k
-  pub out-is : out ≡ stream w next m a k ++ drop at d
+abbrev pub given : ℕ → List ℕ → List ℕ → List ℕ
+given w st p = take (length p) (bytes w st)
 
-module _ (w : ℕ) (next : List ℕ → List ℕ) (m : ℕ) (a : List ℕ) where
-  pub length-stream : (k : ℕ) → m ≤ 25 * (w / 8) → length (stream w next m a k) ≡ k * m
-  unfolding stream
-  length-stream zero h = sym (zero-mul m)
-  length-stream (suc k) h =
-      rw (length-append, length-take-le m (bytes w (iterate next a k)) (omega (arith, length-bytes w (iterate next a k))), length-stream k h, suc-mul)
+same-room : (n at : ℕ) (x y : List ℕ) → length x ≡ length y → length (take n (drop at x)) ≡ length (take n (drop at y))
+same-room n at x y e = simp (length-take, length-drop, e)
 
-  pub length-squeeze : (n : ℕ) → 0 < m → m ≤ 25 * (w / 8) → length (squeeze w next m a n) ≡ n
-  unfolding squeeze before
-  length-squeeze n p h =
-      let k : ℕ = (n - 1) / m in
-      length-take-le n (stream w next m a (suc k)) (omega (arith, length-stream (suc k) h, suc-mul k m, lt-div-mul-add {a = n - 1} {b = m} p))
+take-min : (i m : ℕ) (l : List ℕ) → take i (take m l) ≡ take (min m i) l
+take-min zero m l = rw min-zero
+take-min (suc i) zero l = rw zero-min
+take-min (suc i) (suc m) [] = sym (take-nil (min (suc m) (suc i)))
+take-min (suc i) (suc m) (x ∷ l) = rw suc-min-suc (ap (λ (t : List ℕ). x ∷ t) (take-min i m l))
 
-  pub gave-none : (d : List ℕ) → Gave w next m a d 0 a d
-  unfolding stream iterate
-  gave-none d = record { k = 0; at-is = sym (zero-mul m); st-is = refl; out-is = refl }
+pub given-even : (w m : ℕ) → m ≤ 25 * (w / 8) → (st p : List ℕ) → length p ≤ m → length (given w st p) ≡ length p
+given-even w m v st p h = length-take-le (length p) (bytes w st) (omega (arith, length-bytes w st))
 
-  pub gave-more : (d : List ℕ) (at e : ℕ) (st st′ out X : List ℕ) → Gave w next m a d at st out → e ≡ at + m → e ≤ length out → m ≤ 25 * (w / 8)
-      → X ≡ take (length (take (e - at) (drop at out))) (bytes w st) → st′ ≡ next st
-      → Gave w next m a d e st′ (take at out ++ (X ++ drop (e - at) (drop at out)))
-  unfolding stream iterate
-  gave-more d at e st st′ out X r h b p x t =
-      let k = r .k in
-      let n : length (take (e - at) (drop at out)) ≡ m = length-mid at e out (omega arith) b ∙ omega arith in
-      record {
-        k = suc k;
-        at-is = omega (arith, suc-mul k m);
-        st-is = rw (t, r .st-is);
-        out-is =
-            laid (stream w next m a k) X d out at (e - at) e (r .out-is) (omega (arith, length-stream k p)) (omega arith) ∙ rw (x, n, r .st-is);
-      }
+module _ (w : ℕ) (next : List ℕ → List ℕ) (m : ℕ) (v : m ≤ 25 * (w / 8)) (a s : List ℕ) where
+  pub reached-iterate : (k : ℕ) → reached m (onward next) s a k ≡ iterate next a k
+  unfolding reached iterate
+  reached-iterate zero = refl
+  reached-iterate (suc k) = ap next (reached-iterate k)
 
-  pub gave-last : (d : List ℕ) (at : ℕ) (st out X : List ℕ) → Gave w next m a d at st out → 0 < m → m ≤ 25 * (w / 8)
-      → length out ≡ length d → at ≤ length d - 1 → length out - at ≤ m
-      → X ≡ take (length (take (length out - at) (drop at out))) (bytes w st)
-      → take at out ++ (X ++ drop (length out - at) (drop at out)) ≡ squeeze w next m a (length d)
-  unfolding squeeze stream
-  gave-last d at st out X r p v l b u x =
-      let k = r .k in
-      let S = stream w next m a k in
-      let T = take m (bytes w (iterate next a k)) in
-      let ls : length S ≡ k * m = length-stream k v in
-      let n : length (take (length out - at) (drop at out)) ≡ length out - at = length-mid at (length out) out (omega arith) (omega arith) in
-      let q : before m (length d) ≡ k = before-is m (length d) k at p (r .at-is) b (omega arith) in
-      let g : length d ≡ length S + (length out - at) = omega arith in
-      whole _ (S ++ X) d (length d) (laid S X d out at (length out - at) (length d) (r .out-is) (omega arith) (omega arith)) (omega arith)
-      ∙ rw (q, x, n, r .st-is) (sym (ap (λ (z : ℕ). take z (S ++ T)) g ∙ take-append-add S T (length out - at) ∙ ap (λ (t : List ℕ). S ++ t) (take-take (length out - at) m (bytes w (iterate next a k)) u)))
+  wrote-stream : (k : ℕ) → k * m ≤ length s → wrote m (onward next) (given w) s a k ≡ stream w next m a k
+  unfolding wrote stream
+  wrote-stream zero h = refl
+  wrote-stream (suc k) h =
+      let n : length (piece m s k) ≡ m = omega (arith, length-piece m s k, suc-mul k m) in
+      rw (n, reached-iterate k, wrote-stream k (omega (arith, suc-mul k m)))
+
+  pub squeeze-written : squeeze w next m a (length s) ≡ written m (onward next) (given w) s a
+  unfolding squeeze stream wrote written
+  squeeze-written =
+      let k : ℕ = before m (length s) in
+      let S : List ℕ = stream w next m a k in
+      let Z : List ℕ = bytes w (iterate next a k) in
+      let low : k * m ≤ length s = omega (arith, before-low m (length s)) in
+      let l : length S ≡ k * m = rw (← wrote-stream k low) (length-wrote m (onward next) (given w) s a (given-even w m v) k low) in
+      let e : length s ≡ length S + (length s - k * m) = omega arith in
+      ap (λ (z : ℕ). take z (S ++ take m Z)) e ∙ take-append-add S (take m Z) (length s - k * m)
+      ∙ rw (wrote-stream k low, reached-iterate k, length-piece, take-min)
+
+  pub squeezed-more : (at e : ℕ) (st st′ out X : List ℕ) → Wrote m (onward next) (given w) s a s at st out → e ≡ at + m → at ≤ length s
+      → length out ≡ length s → X ≡ take (length (take (e - at) (drop at out))) (bytes w st) → st′ ≡ next st
+      → Wrote m (onward next) (given w) s a s e st′ (take at out ++ (X ++ drop (e - at) (drop at out)))
+  squeezed-more at e st st′ out X r h b l x t =
+      wrote-more m _ _ s a (given-even w m v) s at e st st′ out X r h b t (x ∙ rw (same-room (e - at) at out s l))
+
+  pub squeezed-last : (at : ℕ) (st out X : List ℕ) → Wrote m (onward next) (given w) s a s at st out → 0 < m → length out ≡ length s
+      → at ≤ length s - 1 → length out - at ≤ m → X ≡ take (length (take (length out - at) (drop at out))) (bytes w st)
+      → take at out ++ (X ++ drop (length out - at) (drop at out)) ≡ squeeze w next m a (length s)
+  squeezed-last at st out X r p l b u x =
+      rw (squeeze-written, l)
+      (whole _ _ s (length s) (wrote-last m _ _ s a (given-even w m v) s at st out X r p b (omega arith) (x ∙ rw (same-room (length out - at) at out s l, l))) (le-refl (length s)))
 
   -- the state that it leaves
-  pub gave-state : (d : List ℕ) (at : ℕ) (st out : List ℕ) → Gave w next m a d at st out → 0 < m → length out ≡ length d → at ≤ length d - 1 → length out - at ≤ m
-      → st ≡ iterate next a (before m (length d))
-  gave-state d at st out r p l b u = rw (r .st-is, before-is m (length d) (r .k) at p (r .at-is) b (omega arith))
+  pub squeezed-state : (at : ℕ) (st out : List ℕ) → Wrote m (onward next) (given w) s a s at st out → 0 < m → length out ≡ length s
+      → at ≤ length s - 1 → length out - at ≤ m → st ≡ iterate next a (before m (length s))
+  squeezed-state at st out r p l b u =
+      ran-last m _ s a (λ st _. st) at st st (r .ran) refl p b (omega arith) ∙ reached-iterate (before m (length s))
+
+pub length-squeeze : (w : ℕ) (next : List ℕ → List ℕ) (m : ℕ) (a : List ℕ) (n : ℕ) → 0 < m → m ≤ 25 * (w / 8) → length (squeeze w next m a n) ≡ n
+length-squeeze w next m a n p v =
+    let s : List ℕ = replicate n 0 in
+    rw (length-replicate {A = ℕ} n 0) at (ap length (squeeze-written w next m v a s) ∙ length-written m (onward next) (given w) s a (given-even w m v) p)

@@ -4,23 +4,21 @@ use mathlib.Core.Path.{_≡_}
 use Prim.Native.Nat.{_≤_, _-_}
 use lib.ListN.{length}
 use Rattle.keccak.specs.Rounds.{f1600}
-use Rattle.sponge.proofs.Pieces.{Ran, ran-none, ran-more}
-use Rattle.duplex.specs.Duplex.{framed, duplexing}
-use Rattle.duplex.proofs.Strings.{absorbed-last}
+use Rattle.sponge.proofs.Turns.{Ran, ran-none, ran-more}
+use Rattle.duplex.proofs.Strings.{taken, absorbed-last}
 use Rattle.duplex.proofs.absorbed.Statement.{statement}
 use Rattle.duplex.proofs.absorbed.Tie as tie
 
 abbrev Inv-loop : tie.InvT-loop
-Inv-loop s mid last rate most st₀ at₀ st at = (at ≤ length s - 1) × (most ≡ rate - 1) × Ran 64 f1600 (rate - 1) (framed rate mid) st₀ s at st
+Inv-loop s mid last rate most st₀ at₀ st at = (at ≤ length s - 1) × (most ≡ rate - 1) × Ran (rate - 1) (taken 64 f1600 rate mid) s st₀ at st
 
 abbrev μ-loop : tie.MeasureT-loop
 μ-loop s mid last rate most st₀ at₀ st at = length s - at
 
 loop-holds : tie.Need-loop-holds Inv-loop μ-loop
-loop-holds c = (search needs, search needs, ran-none _ _ _ _ _ _)
+loop-holds c = (search needs, search needs, ran-none _ _ _ _)
 
 loop-again : tie.Need-loop-again Inv-loop μ-loop
-unfolding duplexing
 loop-again c = (search needs, search needs, search (needs, ran-more))
 
 returns : tie.Need-returns Inv-loop μ-loop

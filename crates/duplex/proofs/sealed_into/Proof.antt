@@ -1,30 +1,32 @@
--- `Sealed` says what is absorbed and written where the loop stands; what is left then is the last piece.
+-- `Wrote` says what is absorbed and written where the loop stands; what is left then is the last piece.
 use borrow.Author.Needs.{needs}
 use mathlib.Core.Path.{_≡_, refl}
 use Prim.Native.Nat.{_≤_, _-_}
 use lib.ListN.{length}
 use Rattle.keccak.specs.Rounds.{f1600}
-use Rattle.duplex.proofs.Seal.{Sealed, sealed-none, sealed-more, sealed-last, sealed-state}
+use Rattle.sponge.proofs.Turns.{Wrote, wrote-none, wrote-more, wrote-last}
+use Rattle.duplex.proofs.Strings.{taken, absorbed-last}
+use Rattle.duplex.proofs.Seal.{mask, mask-even, sealed-written}
 use Rattle.duplex.proofs.sealed_into.Statement.{statement}
 use Rattle.duplex.proofs.sealed_into.Tie as tie
 
 abbrev Inv-loop : tie.InvT-loop
-Inv-loop body rate out₀ most st₀ at₀ out st at = (at ≤ length body - 1) × (most ≡ rate - 1) × (length out ≡ length out₀) × Sealed 64 f1600 rate st₀ body out₀ at st out
+Inv-loop body rate out₀ most st₀ at₀ out st at = (at ≤ length body - 1) × (most ≡ rate - 1) × (length out ≡ length out₀) × Wrote (rate - 1) (taken 64 f1600 rate 1) (mask 64) body st₀ out₀ at st out
 
 abbrev μ-loop : tie.MeasureT-loop
 μ-loop body rate out₀ most st₀ at₀ out st at = length body - at
 
 loop-holds : tie.Need-loop-holds Inv-loop μ-loop
-loop-holds c = (search needs, search needs, search needs, sealed-none _ _ _ _ _ _)
+loop-holds c = (search needs, search needs, search needs, wrote-none _ _ _ _ _ _)
 
 loop-again : tie.Need-loop-again Inv-loop μ-loop
-loop-again c = (search needs, search needs, search needs, sealed-more _ _ _ _ _ _ _ _ _ _ _ _ (c .before .before .before .before .before .before .loop .inv .3) refl (search needs) (c .before .before .seal-piece .ensures .0) (c .before .before .seal-piece .ensures .1))
+loop-again c = (search needs, search needs, search needs, wrote-more _ _ _ _ _ (mask-even 64 _) _ _ _ _ _ _ _ (c .before .before .before .before .before .before .loop .inv .3) refl (search needs) (c .before .before .seal-piece .ensures .0) (c .before .before .seal-piece .ensures .1))
 
 returns : tie.Need-returns Inv-loop μ-loop
 returns c =
     let l = c .before .before .before .before .before .before .loop .inv .3 in (
-      sealed-state _ _ _ _ _ _ _ _ _ l (search needs) (search needs) (search needs) _ (c .before .before .seal-piece2 .ensures .0),
-      sealed-last _ _ _ _ _ _ _ _ _ l (search needs) (search needs) (search needs) _ (c .before .before .seal-piece2 .ensures .1),
+      absorbed-last _ _ _ _ _ _ _ _ _ _ (l .ran) (search needs) (search needs) (search needs) (c .before .before .seal-piece2 .ensures .0),
+      rw sealed-written (wrote-last _ _ _ _ _ (mask-even 64 _) _ _ _ _ _ l (search needs) (search needs) (search needs) (c .before .before .seal-piece2 .ensures .1)),
     )
 
 pub sealed-into-spec : {M : Type 1} → statement M

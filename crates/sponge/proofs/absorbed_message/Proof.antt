@@ -1,24 +1,25 @@
 -- `Ran` says which whole blocks are absorbed where the loop stands; what is left then is shorter than a block.
 use borrow.Author.Needs.{needs}
+use mathlib.Core.Path.{_∙_}
 use Prim.Native.Nat.{_≤_, _-_}
 use lib.ListN.{length}
 use Rattle.keccak.specs.Rounds.{f1600}
-use Rattle.sponge.specs.Sponge.{sponge, zeros}
+use Rattle.sponge.specs.Sponge.{absorbBlock, sponge, zeros}
 use Rattle.sponge.specs.Padding.{padded}
 use Rattle.sponge.specs.Hashes.{messageBlocks}
-use Rattle.sponge.proofs.Pieces.{Ran, ran-none, ran-more, ran-rest}
+use Rattle.sponge.proofs.Turns.{Ran, ran-none, ran-more, ran-rest, reached-block}
 use Rattle.sponge.proofs.absorbed_message.Statement.{statement}
 use Rattle.sponge.proofs.absorbed_message.Tie as tie
 
 abbrev Inv-loop : tie.InvT-loop
-Inv-loop message suffix rate a₀ at₀ a at = (at ≤ length message) × Ran 64 f1600 rate (λ p. p) zeros message at a
+Inv-loop message suffix rate a₀ at₀ a at = (at ≤ length message) × Ran rate (λ st p. absorbBlock 64 f1600 st p) message zeros at a
 
 abbrev μ-loop : tie.MeasureT-loop
 μ-loop message suffix rate a₀ at₀ a at = length message - at
 
 loop-holds : tie.Need-loop-holds Inv-loop μ-loop
 unfolding zeros
-loop-holds c = (search needs, ran-none _ _ _ _ _ _)
+loop-holds c = (search needs, ran-none _ _ _ _)
 
 loop-again : tie.Need-loop-again Inv-loop μ-loop
 loop-again c = (search needs, search (needs, ran-more))
@@ -28,7 +29,8 @@ unfolding sponge messageBlocks
 returns c =
     let s = c .before .before .before .before .before .args .suffix in
     let R = c .before .before .before .before .before .args .rate in
-    ran-rest 64 f1600 R (λ p. p) _ _ (padded R s) _ _ _ (c .before .before .before .loop .inv .1) (search needs) (search needs) (c .absorbed-piece .ensures)
+    ran-rest R _ _ _ (λ st p. absorbBlock 64 f1600 st (padded R s p)) _ _ _ (c .before .before .before .loop .inv .1) (c .absorbed-piece .ensures) (search needs) (search needs)
+    ∙ reached-block 64 f1600 R (λ p. p) _ _ _ _
 
 pub absorbed-message-spec : {M : Type 1} → statement M
 absorbed-message-spec =
