@@ -6,7 +6,7 @@ ghost use lib.ListN.{length, take};
 ghost use Rattle.keccak.specs.Rounds.{f1600};
 ghost use Rattle.sponge.specs.Bytes.{laneOf, mixed, bytes};
 ghost use Rattle.sponge.specs.Padding.{padded};
-ghost use Rattle.sponge.specs.Sponge.{absorbBlock, sponge, squeeze};
+ghost use Rattle.sponge.specs.Sponge.{absorbBlock, absorb, squeeze};
 ghost use Rattle.sponge.specs.Hashes.{messageBlocks, hash, sha3-256, shake128, shake256};
 
 fn two_bytes(low: u8, high: u8) -> u16
@@ -102,20 +102,20 @@ pub fn absorbed_piece(a: [u64; 25], piece: &[u8], suffix: u8, rate: usize) -> [u
     keccak::permuted(mixed_piece(a, piece, suffix, rate))
 }
 
-// A whole message absorbed from the zero state: its whole blocks as they are, and the rest padded.
-fn absorbed_message(message: &[u8], suffix: u8, rate: usize) -> [u64; 25]
+// A whole message absorbed from the state a: its whole blocks as they are, and the rest padded.
+fn absorbed_message(a: [u64; 25], message: &[u8], suffix: u8, rate: usize) -> [u64; 25]
     requires { ⌜ (0 < rate) × (rate ≤ 200) × (rate % 8 ≡ 0) × (suffix < 128) ⌝ }
-    ensures { λ r. ⌜ r ≡ sponge 64 f1600 (messageBlocks rate suffix (now (message .entry))) ⌝ }
+    ensures { λ r. ⌜ r ≡ absorb 64 f1600 a (messageBlocks rate suffix (now (message .entry))) ⌝ }
 {
-    let mut a = [0u64; 25];
+    let mut st = a;
     let mut at = 0;
     while rate <= message.len() - at {
         let e = at + rate;
-        let next = absorbed_block(a, &message[at..e]);
-        a = next;
+        let next = absorbed_block(st, &message[at..e]);
+        st = next;
         at = e;
     }
-    absorbed_piece(a, &message[at..], suffix, rate)
+    absorbed_piece(st, &message[at..], suffix, rate)
 }
 
 // The bytes of a state, in block order: eight stores a lane.
@@ -174,7 +174,8 @@ fn hash_into(message: &[u8], suffix: u8, rate: usize, out: &mut [u8])
     requires { ⌜ (0 < rate) × (rate ≤ 200) × (rate % 8 ≡ 0) × (suffix < 128) ⌝ }
     ensures { λ _. ⌜ now (out .exit) ≡ hash 64 f1600 rate suffix (now (message .entry)) (length (now (out .entry))) ⌝ }
 {
-    squeeze_into(absorbed_message(message, suffix, rate), rate, out);
+    let zeros = [0u64; 25];
+    squeeze_into(absorbed_message(zeros, message, suffix, rate), rate, out);
 }
 
 pub fn sha3_256(message: &[u8]) -> [u8; 32]

@@ -4,7 +4,7 @@ use mathlib.Core.Path.{_∙_}
 use Prim.Native.Nat.{_≤_, _-_}
 use lib.ListN.{length}
 use Rattle.keccak.specs.Rounds.{f1600}
-use Rattle.sponge.specs.Sponge.{absorbBlock, sponge, zeros}
+use Rattle.sponge.specs.Sponge.{absorbBlock}
 use Rattle.sponge.specs.Padding.{padded}
 use Rattle.sponge.specs.Hashes.{messageBlocks}
 use Rattle.sponge.proofs.Turns.{Ran, ran-none, ran-more, ran-rest, reached-block}
@@ -12,20 +12,19 @@ use Rattle.sponge.proofs.absorbed_message.Statement.{statement}
 use Rattle.sponge.proofs.absorbed_message.Tie as tie
 
 abbrev Inv-loop : tie.InvT-loop
-Inv-loop message suffix rate a₀ at₀ a at = (at ≤ length message) × Ran rate (λ st p. absorbBlock 64 f1600 st p) message zeros at a
+Inv-loop message suffix rate st₀ at₀ st at = (at ≤ length message) × Ran rate (absorbBlock 64 f1600) message st₀ at st
 
 abbrev μ-loop : tie.MeasureT-loop
-μ-loop message suffix rate a₀ at₀ a at = length message - at
+μ-loop message suffix rate st₀ at₀ st at = length message - at
 
 loop-holds : tie.Need-loop-holds Inv-loop μ-loop
-unfolding zeros
 loop-holds c = (search needs, ran-none _ _ _ _)
 
 loop-again : tie.Need-loop-again Inv-loop μ-loop
 loop-again c = (search needs, search (needs, ran-more))
 
 returns : tie.Need-returns Inv-loop μ-loop
-unfolding sponge messageBlocks
+unfolding messageBlocks
 returns c =
     let s = c .before .before .before .before .before .args .suffix in
     let R = c .before .before .before .before .before .args .rate in
