@@ -45,7 +45,7 @@ drawn-over w f R a s k l h =
     let m : ℕ = R - 1 in
     let Z : List ℕ = bytes w (iterate (blank w f R) a k) in
     let e = piece-written m (onward (blank w f R)) (given w) s a (given-even w m l) k (le-of-suc-le-suc h) in
-    rw (← blanks-absorb w f R a k, squeeze-written w (blank w f R) m l a s, e, reached-iterate w (blank w f R) m l a s k)
+    rw (← blanks-absorb w f R a k, squeeze-written w (blank w f R) m a s (given-even w m l), e, reached-iterate w (blank w f R) m a s k)
     (rw (length-take-le (length (piece m s k)) Z (omega (arith, length-piece m s k, length-bytes w (iterate (blank w f R) a k)))) refl)
 
 -- a piece of n bytes of output

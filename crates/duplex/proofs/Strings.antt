@@ -1,9 +1,8 @@
 -- Strings through the duplex: their pieces and blocks, and that each call absorbs the plain sponge's blocks.
 use mathlib.Core.Path.{_≡_, refl, sym, ap, _∙_}
 use mathlib.Core.List.{List, [], _∷_, _++_}
-use Prim.Native.Nat.{ℕ, _+_, _-_, _≤_, _<_}
+use Prim.Native.Nat.{ℕ, _+_, _-_, _≤_}
 use native.Mathlib.Numerals.{add-one}
-use native.Mathlib.Omega.{arith}
 use lib.ListN.{length, take, drop, length-append}
 use Rattle.sponge.specs.Pieces.{piece, blocksOf, before}
 use Rattle.sponge.specs.Sponge.{absorb}
@@ -53,8 +52,8 @@ module _ (w : ℕ) (f : List ℕ → List ℕ) (R : ℕ) (a : List ℕ) where
   unfolding absorbed cut front duplexing
   absorbed-turns mid last s = let k = before (R - 1) (length s) in reached-block w f (R - 1) (framed R mid) s a k (framed R last (piece (R - 1) s k))
 
-  pub absorbed-last : (mid last : ℕ) (s : List ℕ) (at : ℕ) (st st′ : List ℕ) → Ran (R - 1) (taken w f R mid) s a at st → 1 < R
+  pub absorbed-last : (mid last : ℕ) (s : List ℕ) (at : ℕ) (st st′ : List ℕ) → Ran (R - 1) (taken w f R mid) s a at st
       → at ≤ length s - 1 → length s - at ≤ R - 1 → st′ ≡ duplexing w f R st (take (length s - at) (drop at s)) last
       → st′ ≡ absorbed w f R a mid last s
-  absorbed-last mid last s at st st′ r h b l t =
-      ran-last (R - 1) (taken w f R mid) s a (taken w f R last) at st st′ r t (omega arith) b l ∙ absorbed-turns mid last s
+  absorbed-last mid last s at st st′ r b l t =
+      ran-last (R - 1) (taken w f R mid) s a (taken w f R last) at st st′ r t b l ∙ absorbed-turns mid last s

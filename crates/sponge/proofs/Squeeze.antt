@@ -37,7 +37,11 @@ take-min (suc i) (suc m) (x ∷ l) = rw suc-min-suc (ap (λ (t : List ℕ). x �
 pub given-even : (w m : ℕ) → m ≤ 25 * (w / 8) → (st p : List ℕ) → length p ≤ m → length (given w st p) ≡ length p
 given-even w m v st p h = length-take-le (length p) (bytes w st) (omega (arith, length-bytes w st))
 
-module _ (w : ℕ) (next : List ℕ → List ℕ) (m : ℕ) (v : m ≤ 25 * (w / 8)) (a s : List ℕ) where
+-- the loop stands at `at`, with the state st, and out, which was s, is filled so far
+abbrev pub Squeezed : ℕ → (List ℕ → List ℕ) → ℕ → List ℕ → List ℕ → ℕ → List ℕ → List ℕ → Type 0
+Squeezed w next m a s at st out = Wrote m (onward next) (given w) s a s at st out
+
+module _ (w : ℕ) (next : List ℕ → List ℕ) (m : ℕ) (a s : List ℕ) where
   pub reached-iterate : (k : ℕ) → reached m (onward next) s a k ≡ iterate next a k
   unfolding reached iterate
   reached-iterate zero = refl
@@ -50,38 +54,39 @@ module _ (w : ℕ) (next : List ℕ → List ℕ) (m : ℕ) (v : m ≤ 25 * (w /
       let n : length (piece m s k) ≡ m = omega (arith, length-piece m s k, suc-mul k m) in
       rw (n, reached-iterate k, wrote-stream k (omega (arith, suc-mul k m)))
 
-  pub squeeze-written : squeeze w next m a (length s) ≡ written m (onward next) (given w) s a
+  pub squeeze-written : ((st p : List ℕ) → length p ≤ m → length (given w st p) ≡ length p)
+      → squeeze w next m a (length s) ≡ written m (onward next) (given w) s a
   unfolding squeeze stream wrote written
-  squeeze-written =
+  squeeze-written even =
       let k : ℕ = before m (length s) in
       let S : List ℕ = stream w next m a k in
       let Z : List ℕ = bytes w (iterate next a k) in
       let low : k * m ≤ length s = omega (arith, before-low m (length s)) in
-      let l : length S ≡ k * m = rw (← wrote-stream k low) (length-wrote m (onward next) (given w) s a (given-even w m v) k low) in
+      let l : length S ≡ k * m = rw (← wrote-stream k low) (length-wrote m (onward next) (given w) s a even k low) in
       let e : length s ≡ length S + (length s - k * m) = omega arith in
       ap (λ (z : ℕ). take z (S ++ take m Z)) e ∙ take-append-add S (take m Z) (length s - k * m)
       ∙ rw (wrote-stream k low, reached-iterate k, length-piece, take-min)
 
-  pub squeezed-more : (at e : ℕ) (st st′ out X : List ℕ) → Wrote m (onward next) (given w) s a s at st out → e ≡ at + m → at ≤ length s
+  pub squeezed-more : (at e : ℕ) (st st′ out X : List ℕ) → Squeezed w next m a s at st out → e ≡ at + m → at ≤ length s - 1
       → length out ≡ length s → X ≡ take (length (take (e - at) (drop at out))) (bytes w st) → st′ ≡ next st
-      → Wrote m (onward next) (given w) s a s e st′ (take at out ++ (X ++ drop (e - at) (drop at out)))
+      → Squeezed w next m a s e st′ (take at out ++ (X ++ drop (e - at) (drop at out)))
   squeezed-more at e st st′ out X r h b l x t =
-      wrote-more m _ _ s a (given-even w m v) s at e st st′ out X r h b t (x ∙ rw (same-room (e - at) at out s l))
+      wrote-more m _ _ s a s at e st st′ out X r h b t (x ∙ rw (same-room (e - at) at out s l))
 
-  pub squeezed-last : (at : ℕ) (st out X : List ℕ) → Wrote m (onward next) (given w) s a s at st out → 0 < m → length out ≡ length s
-      → at ≤ length s - 1 → length out - at ≤ m → X ≡ take (length (take (length out - at) (drop at out))) (bytes w st)
-      → take at out ++ (X ++ drop (length out - at) (drop at out)) ≡ squeeze w next m a (length s)
-  squeezed-last at st out X r p l b u x =
-      rw (squeeze-written, l)
-      (whole _ _ s (length s) (wrote-last m _ _ s a (given-even w m v) s at st out X r p b (omega arith) (x ∙ rw (same-room (length out - at) at out s l, l))) (le-refl (length s)))
+  module _ (at : ℕ) (st out : List ℕ) (r : Squeezed w next m a s at st out) (l : length out ≡ length s) (b : at ≤ length s - 1) (u : length out - at ≤ m) where
+    pub squeezed-last : (X : List ℕ) → X ≡ take (length (take (length out - at) (drop at out))) (bytes w st)
+        → take at out ++ (X ++ drop (length out - at) (drop at out)) ≡ squeeze w next m a (length s)
+    squeezed-last X x =
+        rw (squeeze-written (r .even), l)
+        (whole _ _ s (length s) (wrote-last m _ _ s a s at st out X r b (omega arith) (x ∙ rw (same-room (length out - at) at out s l, l))) (le-refl (length s)))
 
-  -- the state that it leaves
-  pub squeezed-state : (at : ℕ) (st out : List ℕ) → Wrote m (onward next) (given w) s a s at st out → 0 < m → length out ≡ length s
-      → at ≤ length s - 1 → length out - at ≤ m → st ≡ iterate next a (before m (length s))
-  squeezed-state at st out r p l b u =
-      ran-last m _ s a (λ st _. st) at st st (r .ran) refl p b (omega arith) ∙ reached-iterate (before m (length s))
+    -- the state that it leaves
+    pub squeezed-state : st ≡ iterate next a (before m (length s))
+    squeezed-state =
+        ran-last m _ s a (λ st _. st) at st st (r .ran) refl b (omega arith) ∙ reached-iterate (before m (length s))
 
 pub length-squeeze : (w : ℕ) (next : List ℕ → List ℕ) (m : ℕ) (a : List ℕ) (n : ℕ) → 0 < m → m ≤ 25 * (w / 8) → length (squeeze w next m a n) ≡ n
 length-squeeze w next m a n p v =
     let s : List ℕ = replicate n 0 in
-    rw (length-replicate {A = ℕ} n 0) at (ap length (squeeze-written w next m v a s) ∙ length-written m (onward next) (given w) s a (given-even w m v) p)
+    let even = given-even w m v in
+    rw (length-replicate {A = ℕ} n 0) at (ap length (squeeze-written w next m a s even) ∙ length-written m (onward next) (given w) s a even p)

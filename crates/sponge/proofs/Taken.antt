@@ -3,18 +3,19 @@
 use mathlib.Core.Path.{_≡_, refl, sym, ap, ap₂, _∙_}
 use mathlib.Core.List.{List, [], _∷_, _++_}
 use mathlib.Core.Logic.{_≢_, ⊎-elim}
-use Prim.Native.Nat.{ℕ, zero, suc, _+_, _-_, _*_, _/_, _%_, _^_, _≤_, _<_}
-use native.Mathlib.Nat.{add-zero, zero-mul, add-mul, mul-suc, mul-comm, mul-le-mul-left, eq-or-lt-of-le, ne-of-lt, ne-of-gt, mod-lt}
+use Prim.Native.Nat.{ℕ, zero, suc, _+_, _-_, _*_, _/_, _^_, _≤_, _<_}
+use native.Mathlib.Nat.{add-zero, zero-mul, add-mul, mul-suc, mul-comm, mul-le-mul-left, eq-or-lt-of-le, ne-of-lt, ne-of-gt}
 use native.Mathlib.Numerals.{add-one}
 use native.Mathlib.Omega.{arith}
-use lib.Pow.{pow-pos, pow-mono, pow-add, split}
-use lib.Bits.{bitXor, xor-block, xor-lt, xor-zero-r}
+use lib.Pow.{pow-mono, pow-add}
+use lib.Bits.{bitXor}
 use lib.ListN.{length, getD, set, drop, length-append, length-set, List·getD-append, List·getD-eq-default}
 use lib.Seq.{ext-getD, getD-at, getD-set-same, getD-set-other}
 use Rattle.keccak.specs.Lanes.{sum}
 use Rattle.sponge.specs.Table.{table}
 use Rattle.sponge.specs.Bytes.{laneOf, mixed}
 use Rattle.sponge.specs.Padding.{padded}
+use Rattle.sponge.proofs.Xor.{xor-top}
 use Rattle.sponge.proofs.Table.{length-table, table-at, turn, ahead}
 use Rattle.sponge.proofs.Bytes.{sum-zero, lane-past, mixed-all}
 use Rattle.sponge.proofs.Padding.{length-padded, padded-other, padded-last}
@@ -99,23 +100,6 @@ by-place P zero zero f g h = g
 by-place P (suc l) zero f g h = f (omega arith)
 by-place P zero (suc j) f g h = h (omega arith)
 by-place P (suc l) (suc j) f g h = by-place (λ x. P (suc x)) l j (λ k. f (omega arith)) g (λ k. h (omega arith))
-
--- a number's xor with bits below bit k, and then with bit k
-xor-top : (a x k : ℕ) → x < 2 ^ k → bitXor (bitXor a x) (2 ^ k) ≡ bitXor a (x + 2 ^ k)
-xor-top a x k h =
-    let A : ℕ = a / 2 ^ k in
-    let B : ℕ = a % 2 ^ k in
-    let b : B < 2 ^ k = mod-lt a (pow-pos k) in
-    let e : A * 2 ^ k + B ≡ a = split a k in
-    let z : 0 * 2 ^ k + x ≡ x = omega arith in
-    let o : 1 * 2 ^ k + 0 ≡ 2 ^ k = omega arith in
-    let t : 1 * 2 ^ k + x ≡ x + 2 ^ k = omega arith in
-    let l : bitXor a x ≡ A * 2 ^ k + bitXor B x =
-    ap₂ bitXor (sym e) (sym z) ∙ xor-block k A 0 B x b h ∙ ap (λ (y : ℕ). y * 2 ^ k + bitXor B x) (xor-zero-r A) in
-    ap₂ bitXor l (sym o)
-    ∙ xor-block k A 1 (bitXor B x) 0 (xor-lt k B x b h) (pow-pos k)
-    ∙ ap (λ (y : ℕ). bitXor A 1 * 2 ^ k + y) (xor-zero-r (bitXor B x))
-    ∙ sym (ap₂ bitXor (sym e) (sym t) ∙ xor-block k A 1 B x b h)
 
 module _ (R s : ℕ) (p : List ℕ) (h : length p < R) where
   window-other : (v i : ℕ) → i + v ≤ R - 1 → window v (padded R s p) i ≡ window v (p ++ (s ∷ [])) i

@@ -19,18 +19,20 @@ module _ (m : ℕ) (N : List ℕ → List ℕ → List ℕ) (s a : List ℕ) whe
 
   -- the loop stands at `at`, with the state st
   pub record Ran (at : ℕ) (st : List ℕ) : Type 0 where
+    pub room : 0 < m
     pub k : ℕ
     pub at-is : at ≡ k * m
     pub st-is : st ≡ reached k
 
-  pub ran-none : Ran 0 a
+  pub ran-none : 0 < m → Ran 0 a
   unfolding reached
-  ran-none = record { k = 0; at-is = sym (zero-mul m); st-is = refl }
+  ran-none p = record { room = p; k = 0; at-is = sym (zero-mul m); st-is = refl }
 
   pub ran-more : (at e : ℕ) (st st′ : List ℕ) → Ran at st → e ≡ at + m → st′ ≡ N st (take (e - at) (drop at s)) → Ran e st′
   unfolding reached
   ran-more at e st st′ r h d =
       record {
+        room = r .room;
         k = suc (r .k);
         at-is = omega (arith, suc-mul (r .k) m);
         st-is = rw (d, piece-mid m s (r .k) at e (r .at-is) h, r .st-is);
@@ -38,8 +40,8 @@ module _ (m : ℕ) (N : List ℕ → List ℕ → List ℕ) (s a : List ℕ) whe
 
   module _ (L : List ℕ → List ℕ → List ℕ) (at : ℕ) (st st′ : List ℕ) (r : Ran at st) (d : st′ ≡ L st (take (length s - at) (drop at s))) where
     -- after the loop, the last piece of a string that is cut into pieces of 1 to m bytes is taken by L
-    pub ran-last : 0 < m → at ≤ length s - 1 → length s - at ≤ m → st′ ≡ L (reached (before m (length s))) (piece m s (before m (length s)))
-    ran-last p b l = rw (before-is m (length s) (r .k) at p (r .at-is) b l, d, piece-last m s (r .k) at (r .at-is) l, r .st-is)
+    pub ran-last : at ≤ length s - 1 → length s - at ≤ m → st′ ≡ L (reached (before m (length s))) (piece m s (before m (length s)))
+    ran-last b l = rw (before-is m (length s) (r .k) at (r .room) (r .at-is) b l, d, piece-last m s (r .k) at (r .at-is) l, r .st-is)
 
     -- or the rest of a string whose whole pieces have m bytes
     pub ran-rest : at ≤ length s → length s - at < m → st′ ≡ L (reached (length s / m)) (piece m s (length s / m))
@@ -71,12 +73,9 @@ module _ (m : ℕ) (N O : List ℕ → List ℕ → List ℕ) (s a : List ℕ) w
 
   -- the loop stands at `at`, with the state st, and out held d
   pub record Wrote (d : List ℕ) (at : ℕ) (st out : List ℕ) : Type 0 where
+    pub even : (st p : List ℕ) → length p ≤ m → length (O st p) ≡ length p
     pub ran : Ran m N s a at st
     pub out-is : out ≡ wrote (ran .k) ++ drop at d
-
-  pub wrote-none : (d : List ℕ) → Wrote d 0 a d
-  unfolding wrote ran-none
-  wrote-none d = record { ran = ran-none m N s a; out-is = refl }
 
   module _ (even : (st p : List ℕ) → length p ≤ m → length (O st p) ≡ length p) where
     length-more : (k : ℕ) → length (wrote (suc k)) ≡ length (wrote k) + min m (length s - k * m)
@@ -110,23 +109,28 @@ module _ (m : ℕ) (N O : List ℕ → List ℕ → List ℕ) (s a : List ℕ) w
         let k : ℕ = before m (length s) in
         piece-wrote (suc k) j (omega arith) (omega (arith, suc-mul k m, before-low m (length s)))
 
-    pub wrote-more : (d : List ℕ) (at e : ℕ) (st st′ out X : List ℕ) → Wrote d at st out → e ≡ at + m → at ≤ length s
-        → st′ ≡ N st (take (e - at) (drop at s)) → X ≡ O st (take (e - at) (drop at s))
-        → Wrote d e st′ (take at out ++ (X ++ drop (e - at) (drop at out)))
-    unfolding wrote ran-more
-    wrote-more d at e st st′ out X r h b t x =
-        let q = r .ran in
-        record {
-          ran = ran-more m N s a at e st st′ q h t;
-          out-is =
-              laid (wrote (q .k)) X d out at (e - at) e (r .out-is) (omega (arith, length-wrote (q .k) (omega arith))) (omega arith)
-              ∙ rw (x, piece-mid m s (q .k) at e (q .at-is) h, q .st-is);
-        }
+    pub wrote-none : 0 < m → (d : List ℕ) → Wrote d 0 a d
+    unfolding wrote ran-none
+    wrote-none p d = record { even = even; ran = ran-none m N s a p; out-is = refl }
 
-    pub wrote-last : (d : List ℕ) (at : ℕ) (st out X : List ℕ) → Wrote d at st out → 0 < m → at ≤ length s - 1 → length s - at ≤ m
-        → X ≡ O st (take (length s - at) (drop at s)) → take at out ++ (X ++ drop (length s - at) (drop at out)) ≡ written ++ drop (length s) d
-    unfolding wrote written
-    wrote-last d at st out X r p b l x =
-        let q = r .ran in
-        laid (wrote (q .k)) X d out at (length s - at) (length s) (r .out-is) (omega (arith, length-wrote (q .k) (omega arith))) (omega arith)
-        ∙ rw (x, piece-last m s (q .k) at (q .at-is) l, q .st-is, before-is m (length s) (q .k) at p (q .at-is) b l)
+  pub wrote-more : (d : List ℕ) (at e : ℕ) (st st′ out X : List ℕ) → Wrote d at st out → e ≡ at + m → at ≤ length s - 1
+      → st′ ≡ N st (take (e - at) (drop at s)) → X ≡ O st (take (e - at) (drop at s))
+      → Wrote d e st′ (take at out ++ (X ++ drop (e - at) (drop at out)))
+  unfolding wrote ran-more
+  wrote-more d at e st st′ out X r h b t x =
+      let q = r .ran in
+      record {
+        even = r .even;
+        ran = ran-more m N s a at e st st′ q h t;
+        out-is =
+            laid (wrote (q .k)) X d out at (e - at) e (r .out-is) (omega (arith, length-wrote (r .even) (q .k) (omega arith))) (omega arith)
+            ∙ rw (x, piece-mid m s (q .k) at e (q .at-is) h, q .st-is);
+      }
+
+  pub wrote-last : (d : List ℕ) (at : ℕ) (st out X : List ℕ) → Wrote d at st out → at ≤ length s - 1 → length s - at ≤ m
+      → X ≡ O st (take (length s - at) (drop at s)) → take at out ++ (X ++ drop (length s - at) (drop at out)) ≡ written ++ drop (length s) d
+  unfolding wrote written
+  wrote-last d at st out X r b l x =
+      let q = r .ran in
+      laid (wrote (q .k)) X d out at (length s - at) (length s) (r .out-is) (omega (arith, length-wrote (r .even) (q .k) (omega arith))) (omega arith)
+      ∙ rw (x, piece-last m s (q .k) at (q .at-is) l, q .st-is, before-is m (length s) (q .k) at (q .room) (q .at-is) b l)

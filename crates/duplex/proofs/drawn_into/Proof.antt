@@ -1,34 +1,30 @@
--- `Wrote` says what is written where the loop stands, over any step from state to state: here the blank duplexing.
+-- `Squeezed` says what is written where the loop stands, over any step from state to state: here the blank duplexing.
 use borrow.Author.Needs.{needs}
-use mathlib.Core.Path.{_≡_, refl}
+use mathlib.Core.Path.{_≡_}
 use Prim.Native.Nat.{_≤_, _-_}
 use lib.ListN.{length}
 use Rattle.keccak.specs.Rounds.{f1600}
-use Rattle.sponge.proofs.Turns.{Wrote, wrote-none}
-use Rattle.sponge.proofs.Squeeze.{onward, given, squeezed-more, squeezed-last, squeezed-state}
+use Rattle.sponge.proofs.Turns.{wrote-none}
+use Rattle.sponge.proofs.Squeeze.{given-even, Squeezed, squeezed-more, squeezed-last, squeezed-state}
 use Rattle.duplex.specs.Duplex.{blank, drawn, after}
 use Rattle.duplex.proofs.drawn_into.Statement.{statement}
 use Rattle.duplex.proofs.drawn_into.Tie as tie
 
 abbrev Inv-loop : tie.InvT-loop
-Inv-loop rate out₀ most st₀ at₀ out st at = (at ≤ length out₀ - 1) × (most ≡ rate - 1) × (length out ≡ length out₀) × Wrote (rate - 1) (onward (blank 64 f1600 rate)) (given 64) out₀ st₀ out₀ at st out
+Inv-loop rate out₀ most st₀ at₀ out st at = (at ≤ length out₀ - 1) × (most ≡ rate - 1) × (length out ≡ length out₀) × Squeezed 64 (blank 64 f1600 rate) (rate - 1) st₀ out₀ at st out
 
 abbrev μ-loop : tie.MeasureT-loop
 μ-loop rate out₀ most st₀ at₀ out st at = length out₀ - at
 
 loop-holds : tie.Need-loop-holds Inv-loop μ-loop
-loop-holds c = (search needs, search needs, search needs, wrote-none _ _ _ _ _ _)
+loop-holds c = (search needs, search needs, search needs, wrote-none _ _ _ _ _ (given-even _ _ (search needs)) (search needs) _)
 
 loop-again : tie.Need-loop-again Inv-loop μ-loop
-loop-again c = (search needs, search needs, search needs, squeezed-more _ _ _ (search needs) _ _ _ _ _ _ _ _ (c .before .before .before .before .before .before .loop .inv .3) refl (search needs) (search needs) (c .before .before .before .put-bytes .ensures) (c .blanked .ensures))
+loop-again c = (search needs, search needs, search needs, search (needs, squeezed-more))
 
 returns : tie.Need-returns Inv-loop μ-loop
 unfolding drawn after
-returns c =
-    let l = c .before .before .before .before .before .loop .inv .3 in (
-      squeezed-state _ _ _ (search needs) _ _ _ _ _ l (search needs) (search needs) (search needs) (search needs),
-      squeezed-last _ _ _ (search needs) _ _ _ _ _ _ l (search needs) (search needs) (search needs) (search needs) (c .before .before .put-bytes2 .ensures),
-    )
+returns c = (search (needs, squeezed-state), search (needs, squeezed-last))
 
 pub drawn-into-spec : {M : Type 1} → statement M
 drawn-into-spec =

@@ -17,17 +17,17 @@ abbrev μ-loop : tie.MeasureT-loop
 μ-loop cipher rate out₀ most st₀ at₀ out st at = length cipher - at
 
 loop-holds : tie.Need-loop-holds Inv-loop μ-loop
-loop-holds c = (search needs, search needs, search needs, wrote-none _ _ _ _ _ _)
+loop-holds c = (search needs, search needs, search needs, wrote-none _ _ _ _ _ (mask-even _ _) (search needs) _)
 
 loop-again : tie.Need-loop-again Inv-loop μ-loop
-loop-again c = let t = c .before .before .open-piece .ensures in (search needs, search needs, search needs, wrote-more _ _ _ _ _ (mask-even 64 _) _ _ _ _ _ _ _ (c .before .before .before .before .before .before .loop .inv .3) refl (search needs) (rw (t .1) at (t .0)) (t .1))
+loop-again c = let t = c .before .before .open-piece .ensures in (search needs, search needs, search needs, wrote-more _ _ _ _ _ _ _ _ _ _ _ _ (c .before .before .before .before .before .before .loop .inv .3) refl (search needs) (rw (t .1) at (t .0)) (t .1))
 
 returns : tie.Need-returns Inv-loop μ-loop
 returns c =
     let l = c .before .before .before .before .before .before .loop .inv .3 in
     let t = c .before .before .open-piece2 .ensures in (
-      ran-last _ _ _ _ (taken-unmasked 64 f1600 _ 0) _ _ _ (l .ran) (rw (t .1) at (t .0)) (search needs) (search needs) (search needs) ∙ opened-turns _ _ _ _ _ (search needs),
-      rw opened-written (wrote-last _ _ _ _ _ (mask-even 64 _) _ _ _ _ _ l (search needs) (search needs) (search needs) (t .1)),
+      ran-last _ _ _ _ (taken-unmasked 64 f1600 _ 0) _ _ _ (l .ran) (rw (t .1) at (t .0)) (search needs) (search needs) ∙ opened-turns _ _ _ _ _ (search needs),
+      rw opened-written (wrote-last _ _ _ _ _ _ _ _ _ _ l (search needs) (search needs) (t .1)),
     )
 
 pub opened-into-spec : {M : Type 1} → statement M

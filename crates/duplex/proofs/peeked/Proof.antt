@@ -1,6 +1,6 @@
 -- `Ran` says what is absorbed where the loop stands; what is left then is the last piece.
 use borrow.Author.Needs.{needs}
-use mathlib.Core.Path.{_≡_, refl, _∙_}
+use mathlib.Core.Path.{_≡_, _∙_}
 use Prim.Native.Nat.{_≤_, _-_}
 use lib.ListN.{length}
 use Rattle.keccak.specs.Rounds.{f1600}
@@ -16,14 +16,14 @@ abbrev μ-loop : tie.MeasureT-loop
 μ-loop cipher rate most st₀ at₀ st at = length cipher - at
 
 loop-holds : tie.Need-loop-holds Inv-loop μ-loop
-loop-holds c = (search needs, search needs, ran-none _ _ _ _)
+loop-holds c = (search needs, search needs, ran-none _ _ _ _ (search needs))
 
 loop-again : tie.Need-loop-again Inv-loop μ-loop
-loop-again c = (search needs, search needs, ran-more _ _ _ _ _ _ _ _ (c .before .before .before .loop .inv .2) refl (c .peek-piece .ensures))
+loop-again c = (search needs, search needs, search (needs, ran-more))
 
 returns : tie.Need-returns Inv-loop μ-loop
 returns c =
-    ran-last _ _ _ _ (taken-unmasked 64 f1600 _ 0) _ _ _ (c .before .before .before .loop .inv .2) (c .peek-piece2 .ensures) (search needs) (search needs) (search needs)
+    ran-last _ _ _ _ (taken-unmasked 64 f1600 _ 0) _ _ _ (c .before .before .before .loop .inv .2) (c .peek-piece2 .ensures) (search needs) (search needs)
     ∙ opened-turns _ _ _ _ _ (search needs)
 
 pub peeked-spec : {M : Type 1} → statement M

@@ -1,6 +1,6 @@
 -- `Wrote` says what is absorbed and written where the loop stands; what is left then is the last piece.
 use borrow.Author.Needs.{needs}
-use mathlib.Core.Path.{_≡_, refl}
+use mathlib.Core.Path.{_≡_}
 use Prim.Native.Nat.{_≤_, _-_}
 use lib.ListN.{length}
 use Rattle.keccak.specs.Rounds.{f1600}
@@ -17,17 +17,16 @@ abbrev μ-loop : tie.MeasureT-loop
 μ-loop body rate out₀ most st₀ at₀ out st at = length body - at
 
 loop-holds : tie.Need-loop-holds Inv-loop μ-loop
-loop-holds c = (search needs, search needs, search needs, wrote-none _ _ _ _ _ _)
+loop-holds c = (search needs, search needs, search needs, wrote-none _ _ _ _ _ (mask-even _ _) (search needs) _)
 
 loop-again : tie.Need-loop-again Inv-loop μ-loop
-loop-again c = (search needs, search needs, search needs, wrote-more _ _ _ _ _ (mask-even 64 _) _ _ _ _ _ _ _ (c .before .before .before .before .before .before .loop .inv .3) refl (search needs) (c .before .before .seal-piece .ensures .0) (c .before .before .seal-piece .ensures .1))
+loop-again c = (search needs, search needs, search needs, search (needs, wrote-more))
 
 returns : tie.Need-returns Inv-loop μ-loop
 returns c =
-    let l = c .before .before .before .before .before .before .loop .inv .3 in (
-      absorbed-last _ _ _ _ _ _ _ _ _ _ (l .ran) (search needs) (search needs) (search needs) (c .before .before .seal-piece2 .ensures .0),
-      rw sealed-written (wrote-last _ _ _ _ _ (mask-even 64 _) _ _ _ _ _ l (search needs) (search needs) (search needs) (c .before .before .seal-piece2 .ensures .1)),
-    )
+    let l = c .before .before .before .before .before .before .loop .inv .3 in
+    let t = c .before .before .seal-piece2 .ensures in
+    (absorbed-last _ _ _ _ _ _ _ _ _ _ (l .ran) (search needs) (search needs) (t .0), rw sealed-written (wrote-last _ _ _ _ _ _ _ _ _ _ l (search needs) (search needs) (t .1)))
 
 pub sealed-into-spec : {M : Type 1} → statement M
 sealed-into-spec =
