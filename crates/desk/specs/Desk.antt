@@ -1,9 +1,8 @@
 -- The desks' C functions (document 01, "Desk surface"). Open, wrap and unwrap are the calls of a session's image.
 use Prim.Native.Nat.{ℕ}
-use mathlib.Core.List.{List, _++_}
-use mathlib.Core.Bool.{Bool, true, false}
-use lib.Dec.{ltb}
+use mathlib.Core.List.{List, [], _∷_, _++_}
 use lib.ListN.{length, drop}
+use Rattle.refusal.specs.Rows.{first, by, short}
 use Rattle.sponge.specs.Hashes.{sha3-256}
 
 -- the settings of this open, which takes none
@@ -22,9 +21,7 @@ abbrev pub hashed : ℕ → List ℕ → Hashed
 hashed n o = record { number = n; out = o }
 
 -- refused 6 if the output is under 32 bytes
-unfoldable pub settled : Bool → List ℕ → List ℕ → Hashed
-settled true m o = hashed 6 o
-settled false m o = hashed 0 (sha3-256 m ++ drop 32 o)
-
 unfoldable pub hashes : List ℕ → List ℕ → Hashed
-hashes m o = settled (ltb (length o) 32) m o
+hashes m o =
+    let n = first ((short (length o) 32, 6) ∷ []) in
+    hashed n (by n o (sha3-256 m ++ drop 32 o))
