@@ -7,7 +7,7 @@ use native.Mathlib.Nat.{add-zero, add-suc, le-refl, le-step, not-suc-le-zero, eq
 use native.Mathlib.Numerals.{add-one}
 use native.Mathlib.Omega.{arith}
 use lib.ListN.{length, getD, set, take, drop, length-append, length-drop, drop-of-length-le, List·getD-append}
-use lib.Seq.{drop-cons, set-at, append-snoc, take-suc, take-all, getD-at, getD-drop}
+use lib.Seq.{drop-cons, set-at, set-append-left, append-snoc, take-suc, take-all, getD-at, getD-drop}
 use Rattle.sponge.specs.Table.{table}
 
 pub length-table : (n : ℕ) (f : ℕ → ℕ) → length (table n f) ≡ n
@@ -27,6 +27,17 @@ pub table-ext : (n : ℕ) (f g : ℕ → ℕ) → ((i : ℕ) → i < n → f i �
 unfolding table
 table-ext zero f g h = refl
 table-ext (suc n) f g h = rw (table-ext n f g (λ i l. h i (le-step l)), h n (le-refl (suc n)))
+
+-- one element anew
+pub table-set : (n : ℕ) (f g : ℕ → ℕ) (l v : ℕ) → l < n → ((j : ℕ) → j < l → f j ≡ g j) → ((j : ℕ) → l < j → f j ≡ g j) → v ≡ g l
+    → set (table n f) l v ≡ table n g
+unfolding table
+table-set zero f g l v h b a e = absurd (not-suc-le-zero h)
+table-set (suc n) f g l v h b a e =
+    ⊎-elim (λ q. rw (e, q, set-at (table n f) (f n) [] (g n) n (length-table n f), table-ext n f g (λ j k. b j (omega arith))))
+    (λ q. let k : l < length (table n f) = omega (arith, length-table n f) in
+    rw (set-append-left (table n f) (f n ∷ []) l v k, table-set n f g l v q b a e, a n q))
+    (eq-or-lt-of-le (le-of-suc-le-suc h))
 
 -- the table of a list's own elements is its front
 pub table-getD : (p : List ℕ) (n : ℕ) → n ≤ length p → table n (λ i. getD p i 0) ≡ take n p

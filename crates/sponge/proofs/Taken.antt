@@ -1,25 +1,24 @@
 -- A piece taken in without a block: its whole lanes as they are, what is left of it with the byte s after it as one lane, and
 -- the last bit of the block. Over the width w.
-use mathlib.Core.Path.{_≡_, refl, sym, ap, ap₂, _∙_}
+use mathlib.Core.Path.{_≡_, refl, sym, ap, _∙_}
 use mathlib.Core.List.{List, [], _∷_, _++_}
-use mathlib.Core.Logic.{_≢_, ⊎-elim}
-use Prim.Native.Nat.{ℕ, zero, suc, _+_, _-_, _*_, _/_, _^_, _≤_, _<_}
-use native.Mathlib.Nat.{add-zero, zero-mul, add-mul, mul-suc, mul-comm, mul-le-mul-left, eq-or-lt-of-le, ne-of-lt, ne-of-gt}
+use mathlib.Core.Logic.{⊎-elim}
+use Prim.Native.Nat.{ℕ, suc, _+_, _-_, _*_, _/_, _^_, _≤_, _<_}
+use native.Mathlib.Nat.{add-zero, zero-mul, add-mul, mul-suc, mul-comm, mul-le-mul-left, eq-or-lt-of-le}
 use native.Mathlib.Numerals.{add-one}
 use native.Mathlib.Omega.{arith}
 use lib.Pow.{pow-mono, pow-add}
-use lib.Bits.{bitXor}
-use lib.ListN.{length, getD, set, drop, length-append, length-set, List·getD-append, List·getD-eq-default}
-use lib.Seq.{ext-getD, getD-at, getD-set-same, getD-set-other}
+use lib.Bits.{bitXor, xor-zero-l}
+use lib.ListN.{length, take, length-take, getD, set, length-append, List·getD-append, List·getD-eq-default}
+use lib.Seq.{take-append-le, getD-at}
 use Rattle.keccak.specs.Lanes.{sum}
-use Rattle.sponge.specs.Table.{table}
 use Rattle.sponge.specs.Bytes.{laneOf, mixed}
 use Rattle.sponge.specs.Padding.{padded}
-use Rattle.sponge.proofs.Xor.{xor-top}
-use Rattle.sponge.proofs.Table.{length-table, table-at, turn, ahead}
-use Rattle.sponge.proofs.Bytes.{sum-zero, lane-past, mixed-all}
+use Rattle.sponge.proofs.Xor.{xor-assoc, xor-above}
+use Rattle.sponge.proofs.Table.{table-at, table-set}
+use Rattle.sponge.proofs.Bytes.{sum-zero, lane-past}
 use Rattle.sponge.proofs.Padding.{length-padded, padded-other, padded-last}
-use Rattle.sponge.proofs.Lanes.{sum-ext, low-digit}
+use Rattle.sponge.proofs.Lanes.{sum-ext, low-digit, lane-front}
 
 -- ---- v bytes from place i on, as a number
 
@@ -70,20 +69,31 @@ pub lane-rest : (w v : ℕ) (b : List ℕ) (j i x : ℕ) → w / 8 ≡ v → i �
 unfolding window laneOf
 lane-rest w v b j i x d e h = let f : i ≡ v * j = e ∙ mul-comm j v in rw (d, ← f) h
 
--- a lane that lies in a piece
-pub lane-whole : (w : ℕ) (p t : List ℕ) (j : ℕ) → w / 8 * j + w / 8 ≤ length p → laneOf w p j ≡ laneOf w (p ++ t) j
-unfolding laneOf
-lane-whole w p t j h =
-    sum-ext _ _ (w / 8) (λ m k. ap (λ (x : ℕ). x * 2 ^ (8 * m)) (sym (List·getD-append p t 0 (w / 8 * j + m) (omega arith))))
+-- ---- one lane after another of what is mixed in
 
--- after the whole lanes of a block, the lane k where it ends
-pub mixed-rest : (w : ℕ) (a b r : List ℕ) (j k x : ℕ) → r ≡ table j (λ i. bitXor (getD a i 0) (laneOf w b i)) ++ drop j a → j ≡ k
-    → k < 25 → length a ≡ 25 → length b ≤ w / 8 * (k + 1) → x ≡ laneOf w b k → set r k (bitXor (getD r k 0) x) ≡ mixed w a b
-mixed-rest w a b r j k x e g h l n y =
-    let f : r ≡ table k (λ i. bitXor (getD a i 0) (laneOf w b i)) ++ drop k a = rw g at e in
-    mixed-all w a b _ (k + 1)
-    (turn (λ i. bitXor (getD a i 0) (laneOf w b i)) a k r _ f (omega arith) (ap₂ bitXor (ahead (λ i. bitXor (getD a i 0) (laneOf w b i)) a k r f (omega arith)) y))
-    (omega arith) l n
+-- x xored into lane l
+mixed-lane : (w : ℕ) (a b c : List ℕ) (l x : ℕ) → l < 25 → ((j : ℕ) → j < l → laneOf w b j ≡ laneOf w c j) → ((j : ℕ) → l < j → laneOf w b j ≡ laneOf w c j)
+    → bitXor (laneOf w b l) x ≡ laneOf w c l → set (mixed w a b) l (bitXor (getD (mixed w a b) l 0) x) ≡ mixed w a c
+unfolding mixed
+mixed-lane w a b c l x h f g e =
+    table-set 25 _ _ l _ h (λ j n. ap (bitXor (getD a j 0)) (f j n)) (λ j n. ap (bitXor (getD a j 0)) (g j n))
+    (ap (λ (y : ℕ). bitXor y x) (table-at 25 (λ j. bitXor (getD a j 0) (laneOf w b j)) l h) ∙ xor-assoc (getD a l 0) (laneOf w b l) x ∙ ap (bitXor (getD a l 0)) e)
+
+-- after the whole lanes of a piece, the lane k where it ends, with the byte s
+pub mixed-rest : (w : ℕ) → 0 < w / 8 → (a p r : List ℕ) (s k x : ℕ) → r ≡ mixed w a (take (w / 8 * k) p) → w / 8 * k ≤ length p → length p < w / 8 * (k + 1)
+    → k < 25 → x ≡ laneOf w (p ++ (s ∷ [])) k → set r k (bitXor (getD r k 0) x) ≡ mixed w a (p ++ (s ∷ []))
+mixed-rest w room a p r s k x e h l n y =
+    let Q : List ℕ = p ++ (s ∷ []) in
+    let b : List ℕ = take (w / 8 * k) p in
+    let lb : length b ≤ w / 8 * k = omega (arith, length-take (w / 8 * k) p) in
+    let lq : length Q ≡ length p + 1 = length-append p (s ∷ []) in
+    let t : take (w / 8 * k) Q ≡ b = take-append-le (w / 8 * k) p (s ∷ []) h in
+    rw e
+    (mixed-lane w a b Q k x n (λ j q. rw (← t) (lane-front w room Q (w / 8 * k) j (omega (arith, mul-le-mul-left (w / 8) q, mul-suc (w / 8) j))))
+    (λ j q.
+    let m : w / 8 * (k + 1) ≤ w / 8 * j = rw add-one (mul-le-mul-left (w / 8) q) in
+    lane-past w b j (omega (arith, mul-le-mul-left (w / 8) q, mul-suc (w / 8) k)) ∙ sym (lane-past w Q j (omega arith)))
+    (rw (lane-past w b k lb) (xor-zero-l x ∙ y)))
 
 -- a bound of that lane is one of each lane after it
 pub rest-small : (w : ℕ) (b : List ℕ) (k l x n : ℕ) → x ≡ laneOf w b k → x < n → k ≤ l → length b ≤ w / 8 * (k + 1) → laneOf w b l < n
@@ -93,13 +103,6 @@ rest-small w b k l x n e h g m =
     (eq-or-lt-of-le g)
 
 -- ---- the last bit
-
--- a place before, at or after another
-by-place : (P : ℕ → Type 0) (l j : ℕ) → (j < l → P j) → P l → (l < j → P j) → P j
-by-place P zero zero f g h = g
-by-place P (suc l) zero f g h = f (omega arith)
-by-place P zero (suc j) f g h = h (omega arith)
-by-place P (suc l) (suc j) f g h = by-place (λ x. P (suc x)) l j (λ k. f (omega arith)) g (λ k. h (omega arith))
 
 module _ (R s : ℕ) (p : List ℕ) (h : length p < R) where
   window-other : (v i : ℕ) → i + v ≤ R - 1 → window v (padded R s p) i ≡ window v (p ++ (s ∷ [])) i
@@ -117,31 +120,28 @@ module _ (R s : ℕ) (p : List ℕ) (h : length p < R) where
 
   -- the block is mixed in: the piece and s first, and then the last bit of the lane l
   module _ (w v : ℕ) (d : w / 8 ≡ suc v) (a : List ℕ) (l : ℕ) (e : R ≡ suc v * suc l) (k : l < 25) where
-    P : List ℕ
+    abbrev P : List ℕ
     P = padded R s p
 
-    Q : List ℕ
+    abbrev Q : List ℕ
     Q = p ++ (s ∷ [])
 
     lane-is : (b : List ℕ) (j : ℕ) → laneOf w b j ≡ window (suc v) b (suc v * j)
     unfolding laneOf window
     lane-is b j = rw d
 
-    lane-before : (j : ℕ) → j < l → laneOf w P j ≡ laneOf w Q j
-    unfolding P Q
+    lane-before : (j : ℕ) → j < l → laneOf w Q j ≡ laneOf w P j
     lane-before j n =
-        lane-is P j
-        ∙ window-other (suc v) (suc v * j) (omega (arith, mul-le-mul-left (suc v) n, mul-suc (suc v) j, mul-suc (suc v) l))
-        ∙ sym (lane-is Q j)
+        lane-is Q j
+        ∙ sym (window-other (suc v) (suc v * j) (omega (arith, mul-le-mul-left (suc v) n, mul-suc (suc v) j, mul-suc (suc v) l)))
+        ∙ sym (lane-is P j)
 
-    lane-after : (j : ℕ) → l < j → laneOf w P j ≡ laneOf w Q j
-    unfolding P Q
+    lane-after : (j : ℕ) → l < j → laneOf w Q j ≡ laneOf w P j
     lane-after j n =
         let m : R ≤ w / 8 * j = omega (arith, mul-le-mul-left (suc v) n, ap (λ (x : ℕ). x * j) d) in
-        lane-past w P j (omega (arith, length-padded R s p h)) ∙ sym (lane-past w Q j (omega (arith, length-append p (s ∷ []))))
+        lane-past w Q j (omega (arith, length-append p (s ∷ []))) ∙ sym (lane-past w P j (omega (arith, length-padded R s p h)))
 
     lane-last : laneOf w P l ≡ laneOf w Q l + 2 ^ (8 * v + 7)
-    unfolding P Q
     lane-last =
         lane-is P l
         ∙ window-last v (suc v * l) (omega (arith, mul-suc (suc v) l))
@@ -149,36 +149,5 @@ module _ (R s : ℕ) (p : List ℕ) (h : length p < R) where
 
     pub last-bit : (r : List ℕ) → r ≡ mixed w a (p ++ (s ∷ [])) → laneOf w (p ++ (s ∷ [])) l < 2 ^ (8 * v + 7)
         → set r l (bitXor (getD r l 0) (2 ^ (8 * v + 7))) ≡ mixed w a (padded R s p)
-    unfolding mixed P Q
     last-bit r g x =
-        rw g
-        (ext-getD 0 (set (table 25 F) l new) (table 25 G) (length-set (table 25 F) l new ∙ length-table 25 F ∙ sym (length-table 25 G))
-        (λ j n. by-place (λ i. i < 25 → getD (set (table 25 F) l new) i 0 ≡ getD (table 25 G) i 0) l j
-        (λ b u. other j u (ne-of-lt b) (lane-before j b))
-        (λ u. same)
-        (λ b u. other j u (ne-of-gt b) (lane-after j b))
-        (omega (arith, length-set (table 25 F) l new, length-table 25 F))))
-      where
-        F : ℕ → ℕ
-        F j = bitXor (getD a j 0) (laneOf w Q j)
-
-        G : ℕ → ℕ
-        G j = bitXor (getD a j 0) (laneOf w P j)
-
-        new : ℕ
-        new = bitXor (getD (table 25 F) l 0) (2 ^ (8 * v + 7))
-
-        other : (j : ℕ) → j < 25 → j ≢ l → laneOf w P j ≡ laneOf w Q j → getD (set (table 25 F) l new) j 0 ≡ getD (table 25 G) j 0
-        other j u n q =
-            getD-set-other (table 25 F) l j new 0 n
-            ∙ table-at 25 F j u
-            ∙ ap (λ (y : ℕ). bitXor (getD a j 0) y) (sym q)
-            ∙ sym (table-at 25 G j u)
-
-        same : getD (set (table 25 F) l new) l 0 ≡ getD (table 25 G) l 0
-        same =
-            getD-set-same (table 25 F) l new 0 (omega (arith, length-table 25 F))
-            ∙ ap (λ (y : ℕ). bitXor y (2 ^ (8 * v + 7))) (table-at 25 F l k)
-            ∙ xor-top (getD a l 0) (laneOf w Q l) (8 * v + 7) x
-            ∙ ap (λ (y : ℕ). bitXor (getD a l 0) y) (sym lane-last)
-            ∙ sym (table-at 25 G l k)
+        rw g (mixed-lane w a Q P l (2 ^ (8 * v + 7)) k lane-before lane-after (xor-above (laneOf w Q l) (8 * v + 7) x ∙ sym lane-last))

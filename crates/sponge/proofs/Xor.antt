@@ -17,10 +17,9 @@ xor-assoc =
 pub xor-twice : (a b : ℕ) → bitXor (bitXor a b) b ≡ a
 xor-twice a b = rw (xor-assoc, xor-self, xor-zero-r)
 
--- a number's xor with bits below bit k, and then with bit k
-pub xor-top : (a x k : ℕ) → x < 2 ^ k → bitXor (bitXor a x) (2 ^ k) ≡ bitXor a (x + 2 ^ k)
-xor-top a x k h =
+-- bit k above lower ones
+pub xor-above : (x k : ℕ) → x < 2 ^ k → bitXor x (2 ^ k) ≡ x + 2 ^ k
+xor-above x k h =
     let e : 1 * 2 ^ k ≡ 2 ^ k = omega arith in
     let f : bitXor (2 ^ k) x ≡ 2 ^ k + x = rw e at (xor-shifted 1 k x h) in
-    let g : bitXor x (2 ^ k) ≡ x + 2 ^ k = xor-comm x (2 ^ k) ∙ omega (arith, f) in
-    xor-assoc a x (2 ^ k) ∙ ap (bitXor a) g
+    xor-comm x (2 ^ k) ∙ omega (arith, f)

@@ -82,12 +82,8 @@ fn mixed_piece(a: [u64; 25], piece: &[u8], suffix: u8, rate: usize) -> [u64; 25]
     ensures { λ r. ⌜ r ≡ mixed 64 a (padded rate suffix (now (piece .entry))) ⌝ }
 {
     let k = piece.len() / 8;
-    let mut r = a;
-    let mut j = 0;
-    while j < k {
-        r[j] = r[j] ^ lane_of(piece, j);
-        j += 1;
-    }
+    let n = 8 * k;
+    let mut r = mixed(a, &piece[..n]);
     r[k] = r[k] ^ rest_of(piece, suffix);
     let last = rate / 8 - 1;
     r[last] = r[last] ^ 0x8000_0000_0000_0000;
