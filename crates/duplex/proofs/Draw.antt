@@ -23,7 +23,7 @@ module _ (w : ℕ) (f : List ℕ → List ℕ) (R : ℕ) (a : List ℕ) where
   length-drawn n h l = length-squeeze w (blank w f R) (R - 1) a n (omega arith) l
 
   -- k blank duplexings absorb k blocks of the empty piece
-  pub blanks-absorb : (k : ℕ) → iterate (blank w f R) a k ≡ absorb w f a (replicate k (framed R 0 []))
+  blanks-absorb : (k : ℕ) → iterate (blank w f R) a k ≡ absorb w f a (replicate k (framed R 0 []))
   unfolding iterate absorb blank
   blanks-absorb zero = refl
   blanks-absorb (suc k) =

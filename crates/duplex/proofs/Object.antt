@@ -22,10 +22,10 @@ one-fails : (x y : Bool) → (not x && not y) ≡ false → (x ≡ true) ⊎ (y 
 one-fails true y e = inl refl
 one-fails false y e = inr (not-false y e)
 
-pub rate-136 : Rate 64 136
+rate-136 : Rate 64 136
 rate-136 = record { room = lit< tt; most = lit≤ tt; lanes = refl }
 
-pub rate-168 : Rate 64 168
+rate-168 : Rate 64 168
 rate-168 = record { room = lit< tt; most = lit≤ tt; lanes = refl }
 
 pub accepted : (R piece out : ℕ) → refused R piece out ≡ false → Rate 64 R × (piece < R) × (out ≤ R)

@@ -1,5 +1,5 @@
 -- Strings through the duplex: their pieces and blocks, and that each call absorbs the plain sponge's blocks.
-use mathlib.Core.Path.{_≡_, refl, sym, ap, _∙_}
+use mathlib.Core.Path.{_≡_, sym, ap, _∙_}
 use mathlib.Core.List.{List, [], _∷_, _++_}
 use Prim.Native.Nat.{ℕ, _+_, _-_, _≤_}
 use native.Mathlib.Numerals.{add-one}
@@ -7,7 +7,7 @@ use lib.ListN.{length, take, drop, length-append}
 use Rattle.sponge.specs.Pieces.{piece, blocksOf, before}
 use Rattle.sponge.specs.Sponge.{absorb}
 use Rattle.sponge.proofs.Table.{length-table}
-use Rattle.sponge.proofs.Pieces.{length-blocksOf, absorb-more, absorb-append}
+use Rattle.sponge.proofs.Pieces.{length-blocksOf, absorb-more}
 use Rattle.sponge.proofs.Turns.{reached, Ran, ran-last, reached-block}
 use Rattle.duplex.specs.Duplex.{framed, duplexing}
 use Rattle.duplex.specs.Strings.{blocks, front, cut, xored, absorbed}
@@ -31,20 +31,10 @@ abbrev pub taken : ℕ → (List ℕ → List ℕ) → ℕ → ℕ → List ℕ 
 taken w f R b st p = duplexing w f R st p b
 
 module _ (w : ℕ) (f : List ℕ → List ℕ) (R : ℕ) (a : List ℕ) where
-  -- a duplexing absorbs one framed block
-  pub duplexing-is : (p : List ℕ) (b : ℕ) → duplexing w f R a p b ≡ absorb w f a (framed R b p ∷ [])
-  unfolding duplexing absorb
-  duplexing-is p b = refl
-
   -- after the blocks B, a call absorbs its own
   pub duplexing-blocks : (B : List (List ℕ)) (p : List ℕ) (b : ℕ) → duplexing w f R (absorb w f a B) p b ≡ absorb w f a (B ++ (framed R b p ∷ []))
   unfolding duplexing
   duplexing-blocks B p b = sym (absorb-more w f a B (framed R b p))
-
-  pub absorbed-blocks : (B : List (List ℕ)) (mid last : ℕ) (s : List ℕ)
-      → absorbed w f R (absorb w f a B) mid last s ≡ absorb w f a (B ++ cut R mid last s)
-  unfolding absorbed
-  absorbed-blocks B mid last s = sym (absorb-append w f a B (cut R mid last s))
 
   -- the last piece after a loop that duplexes those before it
   pub absorbed-turns : (mid last : ℕ) (s : List ℕ)

@@ -1,15 +1,12 @@
 -- Bytes and lanes.
 use mathlib.Core.Path.{_≡_, refl, sym, ap, _∙_}
-use mathlib.Core.List.{List, _++_}
+use mathlib.Core.List.{List}
 use Prim.Native.Nat.{ℕ, zero, suc, _+_, _*_, _/_, _%_, _^_, _≤_, _<_}
-use native.Mathlib.Nat.{add-zero, zero-mul, mul-add-div, mul-add-mod-self-left, div-eq-of-lt, mod-eq-of-lt, mul-le-mul-left}
+use native.Mathlib.Nat.{add-zero, zero-mul, mul-add-div, mul-add-mod-self-left, div-eq-of-lt, mod-eq-of-lt}
 use native.Mathlib.Omega.{arith}
-use lib.ListN.{length, getD, drop, List·getD-eq-default}
-use lib.Bits.{bitXor, xor-zero-r}
+use lib.ListN.{length, getD, List·getD-eq-default}
 use Rattle.keccak.specs.Lanes.{sum}
-use Rattle.sponge.specs.Table.{table}
-use Rattle.sponge.specs.Bytes.{laneOf, mixed, byteOf}
-use Rattle.sponge.proofs.Table.{done-early}
+use Rattle.sponge.specs.Bytes.{laneOf, byteOf}
 
 -- ---- from bytes to lanes
 
@@ -23,14 +20,6 @@ unfolding laneOf
 lane-past w b j h =
     sum-zero (λ m. getD b (w / 8 * j + m) 0 * 2 ^ (8 * m)) (w / 8)
     (λ m. ap (λ (x : ℕ). x * 2 ^ (8 * m)) (List·getD-eq-default b 0 (omega arith)) ∙ zero-mul (2 ^ (8 * m)))
-
--- a loop that xors a block's lanes into the first lanes of a state has mixed it in
-pub mixed-all : (w : ℕ) (a b r : List ℕ) (j : ℕ) → r ≡ table j (λ i. bitXor (getD a i 0) (laneOf w b i)) ++ drop j a
-    → j ≤ 25 → length a ≡ 25 → length b ≤ w / 8 * j → r ≡ mixed w a b
-unfolding mixed
-mixed-all w a b r j e h l s =
-    done-early (λ i. bitXor (getD a i 0) (laneOf w b i)) a 25 j r e h l
-    (λ k v. ap (λ (x : ℕ). bitXor (getD a k 0) x) (lane-past w b k (omega (arith, mul-le-mul-left (w / 8) v))) ∙ xor-zero-r (getD a k 0))
 
 -- a lane of 64 bits is eight bytes
 pub lane-64 : (b : List ℕ) (j : ℕ) → laneOf 64 b j ≡

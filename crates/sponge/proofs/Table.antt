@@ -1,13 +1,13 @@
 -- Laws of `table`, and of a loop that fills a list d from the front: r ≡ table i f ++ drop i d where it stands at i.
-use mathlib.Core.Path.{_≡_, refl, sym, ap, _∙_}
-use mathlib.Core.List.{List, [], _∷_, _++_, append-nil, append-assoc}
+use mathlib.Core.Path.{_≡_, refl, sym, _∙_}
+use mathlib.Core.List.{List, [], _∷_, _++_, append-nil}
 use mathlib.Core.Logic.{⊎-elim}
 use Prim.Native.Nat.{ℕ, zero, suc, _+_, _-_, _≤_, _<_}
-use native.Mathlib.Nat.{add-zero, add-suc, le-refl, le-step, not-suc-le-zero, eq-or-lt-of-le, le-of-suc-le-suc}
+use native.Mathlib.Nat.{le-refl, le-step, not-suc-le-zero, eq-or-lt-of-le, le-of-suc-le-suc}
 use native.Mathlib.Numerals.{add-one}
 use native.Mathlib.Omega.{arith}
-use lib.ListN.{length, getD, set, take, drop, length-append, length-drop, drop-of-length-le, List·getD-append}
-use lib.Seq.{drop-cons, set-at, set-append-left, append-snoc, take-suc, take-all, getD-at, getD-drop}
+use lib.ListN.{length, getD, set, take, drop, length-append, drop-of-length-le, List·getD-append}
+use lib.Seq.{drop-cons, set-at, set-append-left, append-snoc, take-suc, getD-at}
 use Rattle.sponge.specs.Table.{table}
 
 pub length-table : (n : ℕ) (f : ℕ → ℕ) → length (table n f) ≡ n
@@ -45,12 +45,6 @@ unfolding table
 table-getD p zero h = refl
 table-getD p (suc n) h = let k : n ≤ length p = omega arith in rw (table-getD p n k, take-suc p n 0 h)
 
-pub table-append : (i k : ℕ) (f : ℕ → ℕ) → table (i + k) f ≡ table i f ++ table k (λ j. f (i + j))
-unfolding table
-table-append i zero f = rw add-zero (sym (append-nil (table i f)))
-table-append i (suc k) f =
-    rw (add-suc, table, table-append i k f) (append-assoc (table i f) (table k (λ j. f (i + j))) (f (i + k) ∷ []))
-
 -- ---- a loop that fills d
 
 -- one store more
@@ -80,10 +74,6 @@ turn8 f d i r v0 v1 v2 v3 v4 v5 v6 v7 e l w0 w1 w2 w3 w4 w5 w6 w7 =
     (omega arith) (omega arith) w3) (omega arith) (omega arith) w4) (omega arith) (omega arith) w5) (omega arith) (omega arith) w6)
     (omega arith) (omega arith) w7
 
--- what it has yet to fill is as it was
-pub ahead : (f : ℕ → ℕ) (d : List ℕ) (i : ℕ) (r : List ℕ) → r ≡ table i f ++ drop i d → i < length d → getD r i 0 ≡ getD d i 0
-ahead f d i r e h = rw (e, drop-cons d i 0) (getD-at (table i f) (getD d i 0) (drop (suc i) d) 0 i (length-table i f))
-
 -- nothing of d is left
 pub whole : (x y d : List ℕ) (n : ℕ) → x ≡ y ++ drop n d → length d ≤ n → x ≡ y
 whole x y d n e h = rw (e, drop-of-length-le d h, append-nil)
@@ -91,14 +81,3 @@ whole x y d n e h = rw (e, drop-of-length-le d h, append-nil)
 -- it has filled d
 pub done : (f : ℕ → ℕ) (d : List ℕ) (n i : ℕ) (r : List ℕ) → r ≡ table i f ++ drop i d → i ≤ n → n ≤ i → length d ≡ n → r ≡ table n f
 done f d n i r e h k l = let q : i ≡ n = omega arith in rw (← q) (whole r (table i f) d i e (omega arith))
-
--- it need not fill what f leaves as it was
-pub done-early : (f : ℕ → ℕ) (d : List ℕ) (n i : ℕ) (r : List ℕ) → r ≡ table i f ++ drop i d → i ≤ n → length d ≡ n
-    → ((k : ℕ) → i ≤ k → f k ≡ getD d k 0) → r ≡ table n f
-done-early f d n i r e h l s =
-    let q : n ≡ i + (n - i) = omega arith in
-    let t : table (n - i) (λ j. f (i + j)) ≡ drop i d =
-    table-ext (n - i) (λ j. f (i + j)) (λ j. getD (drop i d) j 0) (λ j v. s (i + j) (omega arith) ∙ sym (getD-drop i d j 0))
-    ∙ table-getD (drop i d) (n - i) (omega (arith, length-drop i d))
-    ∙ take-all (n - i) (drop i d) (omega (arith, length-drop i d)) in
-    e ∙ sym (ap (λ (k : ℕ). table k f) q ∙ table-append i (n - i) f ∙ ap (λ (x : List ℕ). table i f ++ x) t)
