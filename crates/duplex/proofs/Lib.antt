@@ -1,3 +1,4 @@
+pub mod Frame
 pub mod Strings
 pub mod Seal
 pub mod Open
