@@ -20,7 +20,10 @@ loop-holds : tie.Need-loop-holds Inv-loop μ-loop
 loop-holds c = (search needs, search needs, search needs, wrote-none _ _ _ _ _ (mask-even _ _) (search needs) _)
 
 loop-again : tie.Need-loop-again Inv-loop μ-loop
-loop-again c = let t = c .before .before .open-piece .ensures in (search needs, search needs, search needs, wrote-more _ _ _ _ _ _ _ _ _ _ _ _ (c .before .before .before .before .before .before .loop .inv .3) refl (search needs) (rw (t .1) at (t .0)) (t .1))
+loop-again c =
+    let l = c .before .before .before .before .before .before .loop .inv .3 in
+    let t = c .before .before .open-piece .ensures in
+    (search needs, search needs, search needs, wrote-more _ _ _ _ _ _ _ _ _ _ _ _ l refl (search needs) (rw (t .1) at (t .0)) (t .1))
 
 returns : tie.Need-returns Inv-loop μ-loop
 returns c =
