@@ -15,7 +15,7 @@ use Rattle.spongewrap.specs.Refusals.{longBody}
 use Rattle.bundle.proofs.Entry.{the-type}
 use Rattle.bundle.specs.declared.Entry.{Entry}
 use Rattle.bundle.specs.declared.Entry.the-variants.{Whole, Short, Large, Past}
-use Rattle.bundle.specs.Format.{most, headerLength, bodyLength, nextAt, choose, entryAt}
+use Rattle.bundle.specs.Format.{Version, most, headerLength, bodyLength, nextAt, choose, entryAt}
 use Rattle.bundle.specs.Answers.{Told, refused, accepted, by, _orElse_, entryTold}
 use Rattle.bundle.specs.Survey.{unlabelled, last, walk, entriesFrom, surveys}
 use Rattle.refusal.proofs.Rows.{taken, passed}
@@ -23,28 +23,28 @@ use Rattle.bundle.proofs.Tables.{stops-at, goes, same, found-other, fou
 
 -- ---- the rules
 
-module _ (T : ℕ) (b : List ℕ) (place : ℕ) where
-  pub entry-short : length b - place < 6 → Short ≡ entryAt T b place
+module _ (v : Version) (b : List ℕ) (place : ℕ) where
+  pub entry-short : length b - place < 6 → Short ≡ entryAt v b place
   unfolding entryAt choose
   entry-short h = rw (lt-ltb (length b - place) 6 h)
 
   module _ (some : 6 ≤ length b - place) where
-    pub entry-large : 1048576 < bodyLength b place → Large ≡ entryAt T b place
+    pub entry-large : 1048576 < bodyLength b place → Large ≡ entryAt v b place
     unfolding entryAt choose
     entry-large h = rw (le-ltb (length b - place) 6 some, lt-ltb 1048576 (bodyLength b place) h)
 
-    pub entry-past : bodyLength b place ≤ 1048576 → length b < nextAt T b place → Past ≡ entryAt T b place
+    pub entry-past : bodyLength b place ≤ 1048576 → length b < nextAt v b place → Past ≡ entryAt v b place
     unfolding entryAt choose
     entry-past h l =
-        rw (le-ltb (length b - place) 6 some, le-ltb 1048576 (bodyLength b place) h, lt-ltb (length b) (nextAt T b place) l)
+        rw (le-ltb (length b - place) 6 some, le-ltb 1048576 (bodyLength b place) h, lt-ltb (length b) (nextAt v b place) l)
 
-    pub entry-whole : (h m n : ℕ) → h ≡ headerLength b place → m ≡ bodyLength b place → n ≡ nextAt T b place → m ≤ 1048576 → n ≤ length b
-        → Whole h m n ≡ entryAt T b place
+    pub entry-whole : (h m n : ℕ) → h ≡ headerLength b place → m ≡ bodyLength b place → n ≡ nextAt v b place → m ≤ 1048576 → n ≤ length b
+        → Whole h m n ≡ entryAt v b place
     unfolding entryAt choose
     entry-whole h m n eh em en l x =
         let y : bodyLength b place ≤ 1048576 = omega arith in
-        let z : nextAt T b place ≤ length b = omega arith in
-        rw (eh, em, en, le-ltb (length b - place) 6 some, le-ltb 1048576 (bodyLength b place) y, le-ltb (length b) (nextAt T b place) z)
+        let z : nextAt v b place ≤ length b = omega arith in
+        rw (eh, em, en, le-ltb (length b - place) 6 some, le-ltb 1048576 (bodyLength b place) y, le-ltb (length b) (nextAt v b place) z)
 
 -- what a whole entry tells
 unless : (t : Bool) (x e : Entry) (h m n : ℕ) → choose t x e ≡ Whole h m n → (x ≡ Whole h m n → ⊥) → (t ≡ false) × (e ≡ Whole h m n)
@@ -52,24 +52,24 @@ unfolding choose
 unless false x e h m n q d = (refl, q)
 unless true x e h m n q d = absurd (d q)
 
-pub record Whole-at (T : ℕ) (b : List ℕ) (place h m n : ℕ) : Type 0 where
+pub record Whole-at (v : Version) (b : List ℕ) (place h m n : ℕ) : Type 0 where
   pub header : h ≡ headerLength b place
   pub body : m ≡ bodyLength b place
-  pub next : n ≡ nextAt T b place
+  pub next : n ≡ nextAt v b place
   pub small : m ≤ 1048576
   pub ends : n ≤ length b
 
-pub whole-at : (T : ℕ) (b : List ℕ) (place h m n : ℕ) → entryAt T b place ≡ Whole h m n → Whole-at T b place h m n
+pub whole-at : (v : Version) (b : List ℕ) (place h m n : ℕ) → entryAt v b place ≡ Whole h m n → Whole-at v b place h m n
 unfolding entryAt
-whole-at T b place h m n e =
+whole-at v b place h m n e =
     let p = unless (ltb (length b - place) 6) Short _ h m n e (λ z. let o : _≡_ {A = ℕ} 0 1 = cc in omega arith) in
     let q = unless (longBody (bodyLength b place)) Large _ h m n (p .1) (λ z. let o : _≡_ {A = ℕ} 0 1 = cc in omega arith) in
-    let r = unless (ltb (length b) (nextAt T b place)) Past _ h m n (q .1) (λ z. let o : _≡_ {A = ℕ} 0 1 = cc in omega arith) in
+    let r = unless (ltb (length b) (nextAt v b place)) Past _ h m n (q .1) (λ z. let o : _≡_ {A = ℕ} 0 1 = cc in omega arith) in
     let eh : headerLength b place ≡ h = cc in
     let em : bodyLength b place ≡ m = cc in
-    let en : nextAt T b place ≡ n = cc in
+    let en : nextAt v b place ≡ n = cc in
     let l : bodyLength b place ≤ 1048576 = ltb-false 1048576 (bodyLength b place) (q .0) in
-    let x : nextAt T b place ≤ length b = ltb-false (length b) (nextAt T b place) (r .0) in
+    let x : nextAt v b place ≤ length b = ltb-false (length b) (nextAt v b place) (r .0) in
     record { header = sym eh; body = sym em; next = sym en; small = omega arith; ends = omega arith }
 
 -- an entry that is none of `Whole` is refused
@@ -91,61 +91,61 @@ entry-bad Past f place n p q g d en ep = rw (← g, en, ep)
 
 -- ---- the walk: at the end; at entry 65,535; at an entry
 
-module _ (T : ℕ) (b : List ℕ) (place k : ℕ) where
-  pub walk-end : length b ≤ place → entriesFrom T b place k ≡ last T b k
+module _ (v : Version) (b : List ℕ) (place k : ℕ) where
+  pub walk-end : length b ≤ place → entriesFrom v b place k ≡ last v b k
   unfolding entriesFrom walk choose
   walk-end h = ended (65535 - k)
     where
-      ended : (n : ℕ) → walk T n b place k ≡ last T b k
+      ended : (n : ℕ) → walk v n b place k ≡ last v b k
       ended zero = rw (le-ltb place (length b) h)
       ended (suc n) = rw (le-ltb place (length b) h)
 
   module _ (some : place < length b) where
-    pub walk-full : k ≡ 65535 → entriesFrom T b place k ≡ refused 7 place
+    pub walk-full : k ≡ 65535 → entriesFrom v b place k ≡ refused 7 place
     unfolding entriesFrom walk choose
     walk-full e = rw (e, lt-ltb place (length b) some)
 
-    pub walk-on : k < 65535 → entriesFrom T b place k ≡ (entryTold (entryAt T b place) place orElse entriesFrom T b (nextAt T b place) (k + 1))
+    pub walk-on : k < 65535 → entriesFrom v b place k ≡ (entryTold (entryAt v b place) place orElse entriesFrom v b (nextAt v b place) (k + 1))
     unfolding entriesFrom walk choose
     walk-on l =
         let n : 65535 - k ≡ suc (65535 - (k + 1)) = omega arith in
         rw (n, lt-ltb place (length b) some)
 
-    pub walk-bad : k < 65535 → (e : Entry) (n p : ℕ) → e ≡ entryAt T b place → (entryTold e place .number ≡ 0 → ⊥)
-        → n ≡ entryTold e place .number → p ≡ entryTold e place .place → refused n p ≡ entriesFrom T b place k
+    pub walk-bad : k < 65535 → (e : Entry) (n p : ℕ) → e ≡ entryAt v b place → (entryTold e place .number ≡ 0 → ⊥)
+        → n ≡ entryTold e place .number → p ≡ entryTold e place .place → refused n p ≡ entriesFrom v b place k
     walk-bad l e n p g d en ep = entry-bad e _ place n p _ g d en ep ∙ sym (walk-on l)
 
-    pub walk-next : k < 65535 → (h m n : ℕ) → entryAt T b place ≡ Whole h m n → entriesFrom T b place k ≡ entriesFrom T b n (k + 1)
+    pub walk-next : k < 65535 → (h m n : ℕ) → entryAt v b place ≡ Whole h m n → entriesFrom v b place k ≡ entriesFrom v b n (k + 1)
     unfolding by
-    walk-next l h m n e = walk-on l ∙ rw (e, whole-at T b place h m n e .next)
+    walk-next l h m n e = walk-on l ∙ rw (e, whole-at v b place h m n e .next)
 
 -- ---- the last check, by what was found of entry zero
 
-module _ (T : ℕ) (b : List ℕ) (k : ℕ) (e : Entry) (t : Bool) (g : e ≡ entryAt T b 5) (u : t ≡ unlabelled e) where
-  pub last-bad : t ≡ true → refused 11 5 ≡ last T b k
+module _ (v : Version) (b : List ℕ) (k : ℕ) (e : Entry) (t : Bool) (g : e ≡ entryAt v b 5) (u : t ≡ unlabelled e) where
+  pub last-bad : t ≡ true → refused 11 5 ≡ last v b k
   unfolding last
-  last-bad h = let z : unlabelled (entryAt T b 5) ≡ true = cc in stops-at 11 5 _ (taken 11 0 z) refl
+  last-bad h = let z : unlabelled (entryAt v b 5) ≡ true = cc in stops-at 11 5 _ (taken 11 0 z) refl
 
-  pub last-good : t ≡ false → accepted 0 (k ∷ []) ≡ last T b k
+  pub last-good : t ≡ false → accepted 0 (k ∷ []) ≡ last v b k
   unfolding last
-  last-good h = let z : unlabelled (entryAt T b 5) ≡ false = cc in goes 5 (passed 11 z refl) refl refl
+  last-good h = let z : unlabelled (entryAt v b 5) ≡ false = cc in goes 5 (passed 11 z refl) refl refl
 
 -- ---- the survey, past its first rows
 
-module _ (T : ℕ) (b : List ℕ) (some : length b ≡ 0 → ⊥) (fits : ltb most (length b) ≡ false) (one : getD b 0 0 ≡ 1) where
-  first-rows : 0 ≡ pick {A = ℕ} (eqb (length b) 0) 9 (pick (ltb most (length b)) 9 (pick (not (eqb (getD b 0 0) 1)) 10 0))
+module _ (v : Version) (b : List ℕ) (some : length b ≡ 0 → ⊥) (fits : ltb most (length b) ≡ false) (one : getD b 0 0 ≡ v .number) where
+  first-rows : 0 ≡ pick {A = ℕ} (eqb (length b) 0) 9 (pick (ltb most (length b)) 9 (pick (not (eqb (getD b 0 0) (v .number))) 10 0))
   first-rows = passed 9 (ne-eqb _ _ some) (passed 9 fits (passed 10 (same _ _ one) refl))
 
-  pub survey-under : length b < 5 → refused 9 1 ≡ surveys T b
+  pub survey-under : length b < 5 → refused 9 1 ≡ surveys v b
   unfolding surveys
   survey-under h = goes 0 first-rows refl (stops-at 9 1 _ (taken 9 _ (lt-ltb _ _ h)) refl)
 
   module _ (head : 5 ≤ length b) (n : ℕ) (e : n ≡ numberAt 4 b 1) where
-    pub survey-stated : (n ≡ length b - 5 → ⊥) → refused 9 1 ≡ surveys T b
+    pub survey-stated : (n ≡ length b - 5 → ⊥) → refused 9 1 ≡ surveys v b
     unfolding surveys
     survey-stated d =
         goes 0 first-rows refl (stops-at 9 1 _ (passed 9 (le-ltb _ _ head) (taken 9 _ (found-other _ _ e d))) refl)
 
-    pub survey-walks : n ≡ length b - 5 → (t : Told) → t ≡ entriesFrom T b 5 0 → t ≡ surveys T b
+    pub survey-walks : n ≡ length b - 5 → (t : Told) → t ≡ entriesFrom v b 5 0 → t ≡ surveys v b
     unfolding surveys
     survey-walks f t g = goes 0 first-rows refl (goes 1 (passed 9 (le-ltb _ _ head) (passed 9 (found-same _ _ e f) refl)) refl g)

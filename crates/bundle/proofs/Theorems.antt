@@ -13,13 +13,12 @@ use Rattle.fields.proofs.Stores.{getD-sets-before, getD-sets-after}
 use Rattle.fields.proofs.Numbers.{length-bytesOf}
 use Rattle.spongewrap.specs.Desk.{desk}
 use Rattle.refusal.specs.Rows.{first, short}
-use Rattle.spongewrap.specs.Refusals.{badSize}
 use Rattle.spongewrap.specs.Sessions.{next, tagOf, foreign}
 use Rattle.spongewrap.specs.declared.Session.{Session}
 use Rattle.compare.proofs.Same.{same-eq}
 use Rattle.bundle.specs.declared.Entry.{Entry}
 use Rattle.bundle.specs.declared.Entry.the-variants.{Whole, Short, Large, Past}
-use Rattle.bundle.specs.Format.{entryOf, bodyLength, headerAt, tagAt, nextAt, entryAt}
+use Rattle.bundle.specs.Format.{Version, entryOf, bodyLength, headerAt, tagAt, nextAt, entryAt}
 use Rattle.bundle.specs.Answers.{Told, refused, accepted, by, own, _orElse_, entryTold, Seen, seen, settled}
 use Rattle.bundle.specs.Survey.{unlabelled, entriesFrom, surveys}
 use Rattle.bundle.specs.Opening.{openTable, bodyAt, opens}
@@ -33,9 +32,9 @@ use Rattle.bundle.proofs.Written.{Holds, ends, start-accepted, number-f
 -- ---- refusals keep everything
 
 -- the session and the buffer that were handed over
-pub record Kept (s : Session) (d : List ℕ) (v : Seen) : Type 0 where
-  pub session : v .answer .session ≡ s
-  pub buffer : v .buffer ≡ d
+pub record Kept (s : Session) (d : List ℕ) (u : Seen) : Type 0 where
+  pub session : u .answer .session ≡ s
+  pub buffer : u .buffer ≡ d
 
 kept : (t : Told) (s s′ : Session) (d d′ : List ℕ) → (t .number ≡ 0 → ⊥) → Kept s d (settled t s d s′ d′)
 unfolding by
@@ -46,19 +45,19 @@ kept t s s′ d d′ w = go (t .number) w
     go (suc n) h = record { session = refl; buffer = refl }
 
 -- A refused start gives back the session that it took and leaves every byte of the buffer.
-pub start-kept : (T : ℕ) (s : Session) (label d : List ℕ) → (starts T s label d .answer .number ≡ 0 → ⊥) → Kept s d (starts T s label d)
+pub start-kept : (v : Version) (s : Session) (label d : List ℕ) → (starts v s label d .answer .number ≡ 0 → ⊥) → Kept s d (starts v s label d)
 unfolding starts
-start-kept T s label d w = kept (startTable T s (length label) (length d)) s _ d _ w
+start-kept v s label d w = kept (startTable v s (length label) (length d)) s _ d _ w
 
 -- A refused add gives back the session that it took and leaves every byte of the buffer.
-pub add-kept : (T : ℕ) (s : Session) (h b d : List ℕ) → (adds T s h b d .answer .number ≡ 0 → ⊥) → Kept s d (adds T s h b d)
+pub add-kept : (v : Version) (s : Session) (h b d : List ℕ) → (adds v s h b d .answer .number ≡ 0 → ⊥) → Kept s d (adds v s h b d)
 unfolding adds
-add-kept T s h b d w = kept (addTable T s d (length h) (length b)) s _ d _ w
+add-kept v s h b d w = kept (addTable v s d (length h) (length b)) s _ d _ w
 
 -- A refused opening gives back the session that it took and leaves every byte of the output.
-pub open-kept : (T : ℕ) (s : Session) (b : List ℕ) (place : ℕ) (o : List ℕ) → (opens T s b place o .answer .number ≡ 0 → ⊥) → Kept s o (opens T s b place o)
+pub open-kept : (v : Version) (s : Session) (b : List ℕ) (place : ℕ) (o : List ℕ) → (opens v s b place o .answer .number ≡ 0 → ⊥) → Kept s o (opens v s b place o)
 unfolding opens
-open-kept T s b place o w = kept (openTable T s b place (length o)) s _ o _ w
+open-kept v s b place o w = kept (openTable v s b place (length o)) s _ o _ w
 
 -- ---- the places of an opening
 
@@ -75,27 +74,27 @@ at-entry Large p q w f = refl
 at-entry Past p q w f = refl
 
 -- A refused opening carries the place that was asked for.
-pub open-place : (T : ℕ) (s : Session) (b : List ℕ) (place : ℕ) (o : List ℕ) → (opens T s b place o .answer .number ≡ 0 → ⊥)
-    → opens T s b place o .answer .place ≡ place
+pub open-place : (v : Version) (s : Session) (b : List ℕ) (place : ℕ) (o : List ℕ) → (opens v s b place o .answer .number ≡ 0 → ⊥)
+    → opens v s b place o .answer .place ≡ place
 unfolding opens openTable
-open-place T s b place o w =
-    at-place (first (own T s)) place _ w (λ x. at-entry (entryAt T b place) place _ x (λ y. at-place _ place _ y (λ z. absurd (z refl))))
+open-place v s b place o w =
+    at-place (first (own v s)) place _ w (λ x. at-entry (entryAt v b place) place _ x (λ y. at-place _ place _ y (λ z. absurd (z refl))))
 
-seen-is : (v : Seen) (n p : ℕ) (s : Session) (d : List ℕ) → v .answer .number ≡ n → v .answer .place ≡ p → v .answer .session ≡ s → v .buffer ≡ d
-    → v ≡ seen (record { number = n; place = p; session = s }) d
-seen-is v n p s d en ep es ed = rw (← en, ← ep, ← es, ← ed)
+seen-is : (u : Seen) (n p : ℕ) (s : Session) (d : List ℕ) → u .answer .number ≡ n → u .answer .place ≡ p → u .answer .session ≡ s → u .buffer ≡ d
+    → u ≡ seen (record { number = n; place = p; session = s }) d
+seen-is u n p s d en ep es ed = rw (← en, ← ep, ← es, ← ed)
 
-refused-is : (T : ℕ) (s : Session) (b : List ℕ) (place : ℕ) (o : List ℕ) (n : ℕ) → opens T s b place o .answer .number ≡ suc n
-    → opens T s b place o ≡ seen (record { number = suc n; place = place; session = s }) o
-refused-is T s b place o n e =
-    let w : opens T s b place o .answer .number ≡ 0 → ⊥ = λ z. omega arith in
-    let k = open-kept T s b place o w in
-    seen-is (opens T s b place o) (suc n) place s o e (open-place T s b place o w) (k .session) (k .buffer)
+refused-is : (v : Version) (s : Session) (b : List ℕ) (place : ℕ) (o : List ℕ) (n : ℕ) → opens v s b place o .answer .number ≡ suc n
+    → opens v s b place o ≡ seen (record { number = suc n; place = place; session = s }) o
+refused-is v s b place o n e =
+    let w : opens v s b place o .answer .number ≡ 0 → ⊥ = λ z. omega arith in
+    let k = open-kept v s b place o w in
+    seen-is (opens v s b place o) (suc n) place s o e (open-place v s b place o w) (k .session) (k .buffer)
 
 -- All refusals numbered 8 at one place are the same, whatever bundle was handed over and whichever byte differs.
-pub eights-alike : (T : ℕ) (s : Session) (place : ℕ) (o b b′ : List ℕ) → opens T s b place o .answer .number ≡ 8 → opens T s b′ place o .answer .number ≡ 8
-    → opens T s b place o ≡ opens T s b′ place o
-eights-alike T s place o b b′ e f = refused-is T s b place o 7 e ∙ sym (refused-is T s b′ place o 7 f)
+pub eights-alike : (v : Version) (s : Session) (place : ℕ) (o b b′ : List ℕ) → opens v s b place o .answer .number ≡ 8 → opens v s b′ place o .answer .number ≡ 8
+    → opens v s b place o ≡ opens v s b′ place o
+eights-alike v s place o b b′ e f = refused-is v s b place o 7 e ∙ sym (refused-is v s b′ place o 7 f)
 
 -- ---- the tag of an entry
 
@@ -107,88 +106,88 @@ past-entry Large p q e = absurd (omega arith)
 past-entry Past p q e = absurd (omega arith)
 
 -- An entry that opens has the tag that is recomputed over its very header and body, in the session that all earlier pairs left.
-pub opened-tag : (T : ℕ) (s : Session) (b : List ℕ) (place : ℕ) (o : List ℕ) → opens T s b place o .answer .number ≡ 0
-    → tagAt T b place ≡ tagOf desk s (headerAt b place) (bodyAt s b place)
+pub opened-tag : (v : Version) (s : Session) (b : List ℕ) (place : ℕ) (o : List ℕ) → opens v s b place o .answer .number ≡ 0
+    → tagAt v b place ≡ tagOf desk s (headerAt b place) (bodyAt s b place)
 unfolding opens openTable bodyAt foreign
-opened-tag T s b place o e =
-    let p = through (first (own T s)) place _ e in
-    let q = through _ place (accepted (nextAt T b place) []) (past-entry (entryAt T b place) place _ (p .1)) in
+opened-tag v s b place o e =
+    let p = through (first (own v s)) place _ e in
+    let q = through _ place (accepted (nextAt v b place) []) (past-entry (entryAt v b place) place _ (p .1)) in
     let r = clear (short (length o) (bodyLength b place)) 5 _ (q .0) in
     let f = clear _ 7 0 (r .1) in
     same-eq _ _ (not-false _ (f .0))
 
 -- So a header is covered by its tag: where two bundles open at one place under the same tag, the tags that are recomputed over
 -- either header are equal, however the headers differ.
-pub header-covered : (T : ℕ) (s : Session) (place : ℕ) (o b b′ : List ℕ) → opens T s b place o .answer .number ≡ 0 → opens T s b′ place o .answer .number ≡ 0
-    → tagAt T b place ≡ tagAt T b′ place → tagOf desk s (headerAt b place) (bodyAt s b place) ≡ tagOf desk s (headerAt b′ place) (bodyAt s b′ place)
-header-covered T s place o b b′ e f t = sym (opened-tag T s b place o e) ∙ t ∙ opened-tag T s b′ place o f
+pub header-covered : (v : Version) (s : Session) (place : ℕ) (o b b′ : List ℕ) → opens v s b place o .answer .number ≡ 0 → opens v s b′ place o .answer .number ≡ 0
+    → tagAt v b place ≡ tagAt v b′ place → tagOf desk s (headerAt b place) (bodyAt s b place) ≡ tagOf desk s (headerAt b′ place) (bodyAt s b′ place)
+header-covered v s place o b b′ e f t = sym (opened-tag v s b place o e) ∙ t ∙ opened-tag v s b′ place o f
 
 -- ---- what an add leaves
 
 -- An accepted add writes the stated length and the new entry: all other bytes stand.
-pub others-stand : (T : ℕ) (s : Session) (h b d : List ℕ) (i : ℕ) → badSize T ≡ false → adds T s h b d .answer .number ≡ 0
-    → (i < 1) ⊎ ((5 ≤ i) × (i < endOf d)) ⊎ (endWith T d (length h) (length b) ≤ i) → getD (adds T s h b d .buffer) i 0 ≡ getD d i 0
+pub others-stand : (v : Version) (s : Session) (h b d : List ℕ) (i : ℕ) → adds v s h b d .answer .number ≡ 0
+    → (i < 1) ⊎ ((5 ≤ i) × (i < endOf d)) ⊎ (endWith v d (length h) (length b) ≤ i) → getD (adds v s h b d .buffer) i 0 ≡ getD d i 0
 unfolding withEntry
-others-stand T s h b d i good e w =
-    let a = add-accepted T good s s h b d e in
-    let n : ℕ = endWith T d (length h) (length b) - 5 in
+others-stand v s h b d i e w =
+    let a = add-accepted v s s h b d e in
+    let n : ℕ = endWith v d (length h) (length b) - 5 in
     let l = length-bytesOf 4 n in
-    let m = length-entry T good s h b (a .ready) in
+    let m = length-entry v s h b (a .ready) in
     let x : List ℕ = sets d (endOf d) (entryOf s h b) in
-    rw (add-is T good s s h b d a)
+    rw (add-is v s s h b d a)
     (⊎-elim
     (λ (y : i < 1). getD-sets-before (bytesOf 4 n) x 1 i 0 y ∙ getD-sets-before (entryOf s h b) d (endOf d) i 0 (omega arith))
     (⊎-elim
     (λ (y : (5 ≤ i) × (i < endOf d)). getD-sets-after (bytesOf 4 n) x 1 i 0 (omega arith) ∙ getD-sets-before (entryOf s h b) d (endOf d) i 0 (y .1))
-    (λ (y : endWith T d (length h) (length b) ≤ i). getD-sets-after (bytesOf 4 n) x 1 i 0 (omega arith) ∙ getD-sets-after (entryOf s h b) d (endOf d) i 0 (omega arith)))
+    (λ (y : endWith v d (length h) (length b) ≤ i). getD-sets-after (bytesOf 4 n) x 1 i 0 (omega arith) ∙ getD-sets-after (entryOf s h b) d (endOf d) i 0 (omega arith)))
     w)
 
 -- ---- a bundle that was started, and added to pair by pair
 
-module _ (T : ℕ) (good : badSize T ≡ false) (s : Session) (label d : List ℕ) (ps : List Pair) (all : AllAdded T (starts T s label d) ps) where
+module _ (v : Version) (s : Session) (label d : List ℕ) (ps : List Pair) (all : AllAdded v (starts v s label d) ps) where
   -- the last call as it was seen; the bundle is the buffer up to its stated end
   abbrev pub final : Seen
-  final = addsAll T (starts T s label d) ps
+  final = addsAll v (starts v s label d) ps
 
   abbrev pub written : List ℕ
   written = take (endOf (final .buffer)) (final .buffer)
 
-  holds : Holds T s (labelled label ∷ ps) (final .answer .session) (final .buffer)
-  holds = all-holds T good s label d ps all
+  holds : Holds v s (labelled label ∷ ps) (final .answer .session) (final .buffer)
+  holds = all-holds v s label d ps all
 
   -- The bundle is the entries of all pairs in order, with the label's in front, and the session is the one after them.
-  pub written-is : (written ≡ bundleWith s (labelled label ∷ ps)) × (final .answer .session ≡ after s (labelled label ∷ ps))
+  pub written-is : (written ≡ bundleWith v s (labelled label ∷ ps)) × (final .answer .session ≡ after s (labelled label ∷ ps))
   written-is =
-      (ap (λ (n : ℕ). take n (final .buffer)) (ends T s (labelled label ∷ ps) (final .answer .session) (final .buffer) holds) ∙ holds .held, holds .session)
+      (ap (λ (n : ℕ). take n (final .buffer)) (ends v s (labelled label ∷ ps) (final .answer .session) (final .buffer) holds) ∙ holds .held, holds .session)
 
   abbrev front : List ℕ
-  front = 1 ∷ bytesOf 4 (length (entriesOf s (labelled label ∷ ps)))
+  front = v .number ∷ bytesOf 4 (length (entriesOf s (labelled label ∷ ps)))
 
   length-front : length front ≡ 5
   length-front = omega (arith, length-bytesOf 4 (length (entriesOf s (labelled label ∷ ps))))
 
-  as-parts : bundleWith s (labelled label ∷ ps) ≡ front ++ entriesOf s (labelled label ∷ ps)
+  as-parts : bundleWith v s (labelled label ∷ ps) ≡ front ++ entriesOf s (labelled label ∷ ps)
   unfolding bundleWith
   as-parts = refl
 
   -- Opened entry by entry from the session that it was started from, it gives back every header under its own body, in order.
-  pub opens-written : OpensAll T s written 5 (labelled label ∷ ps)
-  opens-written = rw (written-is .0, as-parts, ← length-front) (opens-all T good s (labelled label ∷ ps) front (holds .sealed))
+  pub opens-written : OpensAll v s written 5 (labelled label ∷ ps)
+  opens-written = rw (written-is .0, as-parts, ← length-front) (opens-all v s (labelled label ∷ ps) front (holds .sealed))
 
-  entry-zero : false ≡ unlabelled (entryAt T (front ++ entriesOf s (labelled label ∷ ps)) 5)
+  entry-zero : false ≡ unlabelled (entryAt v (front ++ entriesOf s (labelled label ∷ ps)) 5)
   unfolding entriesOf Sealed unlabelled
   entry-zero =
-      rw (← length-front, entry-is T good s label [] (holds .sealed .0) front (entriesOf (next desk s label []) ps))
-      (sym (start-accepted T good s label d (number-first T good s (starts T s label d) ps all) .label))
+      rw (← length-front, entry-is v s label [] (holds .sealed .0) front (entriesOf (next desk s label []) ps))
+      (sym (start-accepted v s label d (number-first v s (starts v s label d) ps all) .label))
 
-  walked : accepted 0 (suc (length ps) ∷ []) ≡ entriesFrom T (front ++ entriesOf s (labelled label ∷ ps)) 5 0
+  walked : accepted 0 (suc (length ps) ∷ []) ≡ entriesFrom v (front ++ entriesOf s (labelled label ∷ ps)) 5 0
   walked =
       let e : 0 + length (labelled label ∷ ps) ≡ suc (length ps) = omega arith in
-      last-good T (front ++ entriesOf s (labelled label ∷ ps)) (suc (length ps)) _ false refl entry-zero refl
-      ∙ rw (← e, ← length-front) (sym (walk-all T good s (labelled label ∷ ps) front 0 (holds .sealed) (omega (arith, holds .few))))
+      last-good v (front ++ entriesOf s (labelled label ∷ ps)) (suc (length ps)) _ false refl entry-zero refl
+      ∙ rw (← e, ← length-front) (sym (walk-all v s (labelled label ∷ ps) front 0 (holds .sealed) (omega (arith, holds .few))))
 
   -- Its survey accepts it, with the number of its entries.
-  pub survey-written : surveys T written ≡ accepted 0 (suc (length ps) ∷ [])
+  pub survey-written : surveys v written ≡ accepted 0 (suc (length ps) ∷ [])
   survey-written =
       let xs = labelled label ∷ ps in
       let b : List ℕ = front ++ entriesOf s xs in
@@ -196,5 +195,5 @@ module _ (T : ℕ) (good : badSize T ≡ false) (s : Session) (label d : List �
       let l : length b ≡ 5 + n = omega (arith, length-append front (entriesOf s xs), length-front) in
       rw (written-is .0, as-parts)
       (sym
-      (survey-walks T b (λ z. omega arith) (le-ltb 16777216 (length b) (omega (arith, holds .bytes))) refl (omega arith) n
-      (sym (number-at 4 n (1 ∷ []) (entriesOf s xs) 1 refl (omega (arith, holds .bytes)))) (omega arith) (accepted 0 (suc (length ps) ∷ [])) walked))
+      (survey-walks v b (λ z. omega arith) (le-ltb 16777216 (length b) (omega (arith, holds .bytes))) refl (omega arith) n
+      (sym (number-at 4 n (v .number ∷ []) (entriesOf s xs) 1 refl (omega (arith, holds .bytes)))) (omega arith) (accepted 0 (suc (length ps) ∷ [])) walked))

@@ -12,7 +12,7 @@ use Rattle.bundle.specs.declared.Entry.the-variants.{Whole, Short, Large
 use Rattle.bundle.specs.declared.Surveyed.{Surveyed}
 use Rattle.bundle.specs.declared.Surveyed.the-variants.{Entries, Refused}
 use Rattle.bundle.specs.declared.Answer.{Answer}
-use Rattle.bundle.specs.Format.{bundleRate}
+use Rattle.bundle.specs.Format.{Version, bundleRate}
 
 -- the number, 0 if accepted; the place, 0 unless said; and what else an accepted call answers
 pub record Told : Type 0 where
@@ -42,8 +42,8 @@ abbrev pub placed : ℕ → List (Bool × ℕ) → Told
 placed place rows = refused (first rows) place
 
 -- a session's own rows, with the bundle's rate and tag length: 1, 3, 7
-abbrev pub own : ℕ → Session → List (Bool × ℕ)
-own T s = ownRows (not (eqb (s .rate) bundleRate)) (not (eqb (s .tag) T)) (full (desk .ceiling) (s .pairs) (s .calls))
+abbrev pub own : Version → Session → List (Bool × ℕ)
+own v s = ownRows (not (eqb (s .rate) bundleRate)) (not (eqb (s .tag) (v .tag))) (full (desk .ceiling) (s .pairs) (s .calls))
 
 -- ---- the answers that are enums
 

@@ -1,29 +1,33 @@
 -- The format of a bundle, byte by byte, and the entry rules (document 01, "Bundle, version 1").
--- Byte 0 is the version. Bytes 1 to 4: how many bytes follow, big-endian. Then entries, over T, the version's tag length:
--- header length (2 bytes), body length (4), header, ciphertext, tag of T. Lengths are big-endian.
+-- Byte 0 is the version. Bytes 1 to 4: how many bytes follow, big-endian. Then entries: header length (2 bytes), body length (4),
+-- header, ciphertext, tag of the version's length. Lengths are big-endian.
 use Prim.Native.Nat.{ℕ, _+_, _-_}
+use mathlib.Core.Path.{_≡_, refl}
 use mathlib.Core.List.{List, _++_}
 use mathlib.Core.Bool.{Bool, true, false, _||_}
 use lib.ListN.{length, take, drop}
 use lib.Dec.{ltb}
 use Rattle.fields.specs.Numbers.{numberAt, bytesOf}
 use Rattle.spongewrap.specs.Desk.{desk}
-use Rattle.spongewrap.specs.Refusals.{longBody}
+use Rattle.spongewrap.specs.Refusals.{badSize, longBody}
 use Rattle.spongewrap.specs.Sessions.{sealing, tagOf}
 use Rattle.spongewrap.specs.declared.Session.{Session}
 use Rattle.bundle.specs.declared.Entry.{Entry}
 use Rattle.bundle.specs.declared.Entry.the-variants.{Whole, Short, Large, Past}
 
--- ---- version 1
+-- ---- versions
 
-abbrev pub version : ℕ
-version = 1
+-- a version's number, and the tag length of its sessions, which is one that a session may have
+pub record Version : Type 0 where
+  pub number : ℕ
+  pub tag : ℕ
+  pub fit : badSize tag ≡ false
+
+abbrev pub version1 : Version
+version1 = record { number = 1; tag = 16; fit = refl }
 
 abbrev pub bundleRate : ℕ
 bundleRate = 136
-
-abbrev pub tagLength : ℕ
-tagLength = 16
 
 -- the most bytes of a bundle
 abbrev pub most : ℕ
@@ -35,8 +39,8 @@ most = 16777216
 unfoldable pub entryOf : Session → List ℕ → List ℕ → List ℕ
 entryOf s h b = bytesOf 2 (length h) ++ (bytesOf 4 (length b) ++ (h ++ (sealing desk s h b ++ tagOf desk s h b)))
 
-abbrev pub size : ℕ → ℕ → ℕ → ℕ
-size T header body = 6 + header + body + T
+abbrev pub size : Version → ℕ → ℕ → ℕ
+size v header body = 6 + header + body + v .tag
 
 -- ---- an entry that is read at a place of b
 
@@ -52,11 +56,11 @@ headerAt b place = take (headerLength b place) (drop (place + 6) b)
 abbrev pub cipherAt : List ℕ → ℕ → List ℕ
 cipherAt b place = take (bodyLength b place) (drop (place + 6 + headerLength b place) b)
 
-abbrev pub tagAt : ℕ → List ℕ → ℕ → List ℕ
-tagAt T b place = take T (drop (place + 6 + headerLength b place + bodyLength b place) b)
+abbrev pub tagAt : Version → List ℕ → ℕ → List ℕ
+tagAt v b place = take (v .tag) (drop (place + 6 + headerLength b place + bodyLength b place) b)
 
-abbrev pub nextAt : ℕ → List ℕ → ℕ → ℕ
-nextAt T b place = place + size T (headerLength b place) (bodyLength b place)
+abbrev pub nextAt : Version → List ℕ → ℕ → ℕ
+nextAt v b place = place + size v (headerLength b place) (bodyLength b place)
 
 -- ---- the entry rules
 
@@ -65,12 +69,12 @@ choose true x y = x
 choose false x y = y
 
 -- malformed: under 6 bytes left; a body length over 1,048,576; not enough bytes for the entry
-unfoldable pub entryAt : ℕ → List ℕ → ℕ → Entry
-entryAt T b place =
+unfoldable pub entryAt : Version → List ℕ → ℕ → Entry
+entryAt v b place =
     choose (ltb (length b - place) 6) Short
     (choose (longBody (bodyLength b place)) Large
-    (choose (ltb (length b) (nextAt T b place)) Past
-    (Whole (headerLength b place) (bodyLength b place) (nextAt T b place))))
+    (choose (ltb (length b) (nextAt v b place)) Past
+    (Whole (headerLength b place) (bodyLength b place) (nextAt v b place))))
 
 -- entry zero has a label of 16 to 64 bytes and an empty body
 abbrev pub badLabel : ℕ → Bool

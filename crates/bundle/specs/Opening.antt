@@ -6,22 +6,22 @@ use Rattle.spongewrap.specs.Desk.{desk}
 use Rattle.refusal.specs.Rows.{short}
 use Rattle.spongewrap.specs.Sessions.{next, recovered, foreign}
 use Rattle.spongewrap.specs.declared.Session.{Session}
-use Rattle.bundle.specs.Format.{bodyLength, headerAt, cipherAt, tagAt, nextAt, entryAt}
+use Rattle.bundle.specs.Format.{Version, bodyLength, headerAt, cipherAt, tagAt, nextAt, entryAt}
 use Rattle.bundle.specs.Answers.{Told, accepted, placed, _orElse_, own, entryTold, Seen, settled}
 
 -- 1, 3, 7, then 9 under the entry rules, 6, 8, each at that place; else the next place. `out` is the lent output's length
-unfoldable pub openTable : ℕ → Session → List ℕ → ℕ → ℕ → Told
-openTable T s b place out =
-    placed place (own T s)
-    orElse entryTold (entryAt T b place) place
-    orElse placed place ((short out (bodyLength b place), 6) ∷ (foreign desk s (headerAt b place) (cipherAt b place) (tagAt T b place), 8) ∷ [])
-    orElse accepted (nextAt T b place) []
+unfoldable pub openTable : Version → Session → List ℕ → ℕ → ℕ → Told
+openTable v s b place out =
+    placed place (own v s)
+    orElse entryTold (entryAt v b place) place
+    orElse placed place ((short out (bodyLength b place), 6) ∷ (foreign desk s (headerAt b place) (cipherAt b place) (tagAt v b place), 8) ∷ [])
+    orElse accepted (nextAt v b place) []
 
 -- the body of the entry
 unfoldable pub bodyAt : Session → List ℕ → ℕ → List ℕ
 bodyAt s b place = recovered desk s (headerAt b place) (cipherAt b place)
 
-unfoldable pub opens : ℕ → Session → List ℕ → ℕ → List ℕ → Seen
-opens T s b place o =
-    settled (openTable T s b place (length o)) s o
+unfoldable pub opens : Version → Session → List ℕ → ℕ → List ℕ → Seen
+opens v s b place o =
+    settled (openTable v s b place (length o)) s o
     (next desk s (headerAt b place) (bodyAt s b place)) (bodyAt s b place ++ drop (length (bodyAt s b place)) o)

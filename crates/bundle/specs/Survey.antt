@@ -7,7 +7,7 @@ use lib.Dec.{eqb, ltb}
 use Rattle.fields.specs.Numbers.{numberAt}
 use Rattle.bundle.specs.declared.Entry.{Entry}
 use Rattle.bundle.specs.declared.Entry.the-variants.{Whole, Short, Large, Past}
-use Rattle.bundle.specs.Format.{version, most, nextAt, choose, entryAt, badLabel}
+use Rattle.bundle.specs.Format.{Version, most, nextAt, choose, entryAt, badLabel}
 use Rattle.bundle.specs.Answers.{Told, refused, accepted, placed, _orElse_, entryTold}
 
 -- entry zero is missing, has a body, or its header isn't 16 to 64 bytes
@@ -18,20 +18,20 @@ unlabelled Large = true
 unlabelled Past = true
 
 -- last, 11 at 5; else the number of entries
-unfoldable pub last : ℕ → List ℕ → ℕ → Told
-last T b k = placed 5 ((unlabelled (entryAt T b 5), 11) ∷ []) orElse accepted 0 (k ∷ [])
+unfoldable pub last : Version → List ℕ → ℕ → Told
+last v b k = placed 5 ((unlabelled (entryAt v b 5), 11) ∷ []) orElse accepted 0 (k ∷ [])
 
 -- entry by entry: number k is at `place`, and n more may come before entry 65,535, which is 7 at its first byte
-unfoldable pub walk : ℕ → ℕ → List ℕ → ℕ → ℕ → Told
-walk T zero b place k = choose (ltb place (length b)) (refused 7 place) (last T b k)
-walk T (suc n) b place k =
-    choose (ltb place (length b)) (entryTold (entryAt T b place) place orElse walk T n b (nextAt T b place) (k + 1)) (last T b k)
+unfoldable pub walk : Version → ℕ → List ℕ → ℕ → ℕ → Told
+walk v zero b place k = choose (ltb place (length b)) (refused 7 place) (last v b k)
+walk v (suc n) b place k =
+    choose (ltb place (length b)) (entryTold (entryAt v b place) place orElse walk v n b (nextAt v b place) (k + 1)) (last v b k)
 
-unfoldable pub entriesFrom : ℕ → List ℕ → ℕ → ℕ → Told
-entriesFrom T b place k = walk T (65535 - k) b place k
+unfoldable pub entriesFrom : Version → List ℕ → ℕ → ℕ → Told
+entriesFrom v b place k = walk v (65535 - k) b place k
 
-unfoldable pub surveys : ℕ → List ℕ → Told
-surveys T b =
-    placed 0 ((eqb (length b) 0, 9) ∷ (ltb most (length b), 9) ∷ (not (eqb (getD b 0 0) version), 10) ∷ [])
+unfoldable pub surveys : Version → List ℕ → Told
+surveys v b =
+    placed 0 ((eqb (length b) 0, 9) ∷ (ltb most (length b), 9) ∷ (not (eqb (getD b 0 0) (v .number)), 10) ∷ [])
     orElse placed 1 ((ltb (length b) 5, 9) ∷ (not (eqb (numberAt 4 b 1) (length b - 5)), 9) ∷ [])
-    orElse entriesFrom T b 5 0
+    orElse entriesFrom v b 5 0

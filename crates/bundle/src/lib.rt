@@ -7,7 +7,7 @@ ghost use lib.Seq.{sets};
 ghost use Rattle.refusal.specs.Rows.{first};
 ghost use Rattle.spongewrap.specs.Sessions.{cost, next};
 ghost use Rattle.spongewrap.specs.Desk.{desk};
-ghost use Rattle.bundle.specs.Format.{bundleRate, tagLength, entryOf, size, entryAt, badLabel};
+ghost use Rattle.bundle.specs.Format.{version1, bundleRate, entryOf, size, entryAt, badLabel};
 ghost use Rattle.bundle.specs.Answers.{refused, own, entryTold, surveyTold, seen};
 ghost use Rattle.bundle.specs.Survey.{unlabelled, entriesFrom, surveys};
 ghost use Rattle.bundle.specs.Opening.{opens};
@@ -77,14 +77,14 @@ struct Refusal {
 // How many bytes an entry takes, by the lengths of its header and body.
 fn entry_size(header: usize, body: usize) -> usize
     requires { ⌜ (header ≤ 65535) × (body ≤ 1048576) ⌝ }
-    ensures { λ r. ⌜ r ≡ size tagLength header body ⌝ }
+    ensures { λ r. ⌜ r ≡ size version1 header body ⌝ }
 {
     LENGTHS + header + body + TAG
 }
 
 // The entry at a place, by the entry rules, up to the end of the lent bytes.
 pub fn entry_at(bundle: &[u8], place: usize) -> Entry
-    ensures { λ r. ⌜ r ≡ entryAt tagLength (now (bundle .entry)) place ⌝ }
+    ensures { λ r. ⌜ r ≡ entryAt version1 (now (bundle .entry)) place ⌝ }
 {
     if bundle.len() <= place {
         return Entry::Short;
@@ -139,7 +139,7 @@ fn entry_refusal(entry: Entry, place: usize) -> Refusal
 
 // The permutation calls that an entry adds to its session's, by the lengths of its header and body.
 pub fn calls_of(header: usize, body: usize) -> u64
-    ensures { λ r. ⌜ (r ≡ cost bundleRate tagLength header body) × (r ≤ header + body + 2) ⌝ }
+    ensures { λ r. ⌜ (r ≡ cost bundleRate (version1 .tag) header body) × (r ≤ header + body + 2) ⌝ }
 {
     let rate = RATE as usize;
     spongewrap::block_count(header, rate)
@@ -172,7 +172,7 @@ fn is_unlabelled(entry: Entry) -> bool
 
 // The entries of a bundle whose first bytes are right, in one pass; last, entry zero.
 fn survey_entries(bundle: &[u8]) -> Surveyed
-    ensures { λ r. ⌜ surveyTold r ≡ entriesFrom tagLength (now (bundle .entry)) 5 0 ⌝ }
+    ensures { λ r. ⌜ surveyTold r ≡ entriesFrom version1 (now (bundle .entry)) 5 0 ⌝ }
 {
     let mut place = FIRST;
     let mut count = 0;
@@ -210,7 +210,7 @@ fn survey_entries(bundle: &[u8]) -> Surveyed
 
 // Whether bytes are a bundle, and of how many entries. No tag is looked at: a bundle is open when each entry has opened.
 pub fn survey(bundle: &[u8]) -> Surveyed
-    ensures { λ r. ⌜ surveyTold r ≡ surveys tagLength (now (bundle .entry)) ⌝ }
+    ensures { λ r. ⌜ surveyTold r ≡ surveys version1 (now (bundle .entry)) ⌝ }
 {
     let bytes = bundle.len();
     if bytes == 0 || MOST_BYTES < bytes {
@@ -253,7 +253,7 @@ fn answered(number: u8, place: usize, session: Session) -> Answer
 
 // What a bundle refuses of a session: 1, 3, 7, or 0.
 fn own_refusal(s: Session) -> u8
-    ensures { λ r. ⌜ r ≡ first (own tagLength s) ⌝ }
+    ensures { λ r. ⌜ r ≡ first (own version1 s) ⌝ }
 {
     orders::of_session(s, s.rate != RATE, s.tag as usize != TAG)
 }
@@ -261,7 +261,7 @@ fn own_refusal(s: Session) -> u8
 // Opens the entry at a place: its body goes to the first bytes of `out`, and the answer's place is the next entry's.
 // A refusal carries the place that was asked for.
 pub fn open_entry(s: Session, bundle: &[u8], place: usize, out: &mut [u8]) -> Answer
-    ensures { λ r. ⌜ seen r (now (out .exit)) ≡ opens tagLength s (now (bundle .entry)) place (now (out .entry)) ⌝ }
+    ensures { λ r. ⌜ seen r (now (out .exit)) ≡ opens version1 s (now (bundle .entry)) place (now (out .entry)) ⌝ }
 {
     let number = own_refusal(s);
     if number != 0 {
@@ -293,7 +293,7 @@ pub fn open_entry(s: Session, bundle: &[u8], place: usize, out: &mut [u8]) -> An
 // Writes an entry at a place. The pair is sealed where it stands: one part of the bundle, from the ciphertext through
 // the tag, is lent on.
 fn write_entry(s: Session, header: &[u8], body: &[u8], bundle: &mut [u8], place: usize) -> Session
-    requires { ⌜ Ready tagLength s (length (now header)) (length (now body)) × (place + size tagLength (length (now header)) (length (now body)) ≤ length (now bundle)) ⌝ }
+    requires { ⌜ Ready version1 s (length (now header)) (length (now body)) × (place + size version1 (length (now header)) (length (now body)) ≤ length (now bundle)) ⌝ }
     ensures { λ r. ⌜ (r ≡ next desk s (now (header .entry)) (now (body .entry))) × (now (bundle .exit) ≡ sets (now (bundle .entry)) place (entryOf s (now (header .entry)) (now (body .entry)))) ⌝ }
 {
     fields::put_u16(bundle, place, header.len() as u16);
@@ -308,7 +308,7 @@ fn write_entry(s: Session, header: &[u8], body: &[u8], bundle: &mut [u8], place:
 
 // The refusals of a start, by the lengths of its label and buffer. Each carries place 0.
 fn start_refusal(s: Session, label: usize, room: usize) -> u8
-    ensures { λ r. ⌜ refused r 0 ≡ startTable tagLength s label room ⌝ }
+    ensures { λ r. ⌜ refused r 0 ≡ startTable version1 s label room ⌝ }
 {
     let number = own_refusal(s);
     if number != 0 {
@@ -325,7 +325,7 @@ fn start_refusal(s: Session, label: usize, room: usize) -> u8
 
 // Starts a bundle: version, length, and entry zero with its label.
 pub fn start(s: Session, label: &[u8], bundle: &mut [u8]) -> Answer
-    ensures { λ r. ⌜ seen r (now (bundle .exit)) ≡ starts tagLength s (now (label .entry)) (now (bundle .entry)) ⌝ }
+    ensures { λ r. ⌜ seen r (now (bundle .exit)) ≡ starts version1 s (now (label .entry)) (now (bundle .entry)) ⌝ }
 {
     let number = start_refusal(s, label.len(), bundle.len());
     if number != 0 {
@@ -347,7 +347,7 @@ fn end_of(bundle: &[u8]) -> usize
 
 // The refusals of an add, by the lengths of its header and body. Of the buffer, the first five bytes are read.
 fn add_refusal(s: Session, bundle: &[u8], header: usize, body: usize) -> Refusal
-    ensures { λ r. ⌜ refused (r .number) (r .place) ≡ addTable tagLength s (now (bundle .entry)) header body ⌝ }
+    ensures { λ r. ⌜ refused (r .number) (r .place) ≡ addTable version1 s (now (bundle .entry)) header body ⌝ }
 {
     let number = own_refusal(s);
     if number != 0 {
@@ -371,7 +371,7 @@ fn add_refusal(s: Session, bundle: &[u8], header: usize, body: usize) -> Refusal
 // The buffer's own first bytes, and then the room that an entry more would take.
 fn buffer_refusal(bundle: &[u8], header: usize, body: usize) -> Refusal
     requires { ⌜ (header ≤ 65535) × (body ≤ 1048576) ⌝ }
-    ensures { λ r. ⌜ refused (r .number) (r .place) ≡ bufferTable tagLength (now (bundle .entry)) header body ⌝ }
+    ensures { λ r. ⌜ refused (r .number) (r .place) ≡ bufferTable version1 (now (bundle .entry)) header body ⌝ }
 {
     let room = bundle.len();
     if room < FIRST {
@@ -408,7 +408,7 @@ fn buffer_refusal(bundle: &[u8], header: usize, body: usize) -> Refusal
 
 // Adds an entry at the stated end of the bundle, and raises the stated length. All other bytes stand.
 pub fn add(s: Session, header: &[u8], body: &[u8], bundle: &mut [u8]) -> Answer
-    ensures { λ r. ⌜ seen r (now (bundle .exit)) ≡ adds tagLength s (now (header .entry)) (now (body .entry)) (now (bundle .entry)) ⌝ }
+    ensures { λ r. ⌜ seen r (now (bundle .exit)) ≡ adds version1 s (now (header .entry)) (now (body .entry)) (now (bundle .entry)) ⌝ }
 {
     let r = add_refusal(s, &bundle[..], header.len(), body.len());
     let number = r.number;

@@ -1,7 +1,7 @@
 -- The checks in their order; past them, the parts of a whole entry are unwrapped, and the answer gets its place.
 use Prim.Native.Nat.{_+_, _-_}
 use native.Mathlib.Omega.{arith}
-use mathlib.Core.Path.{refl, sym, _∙_}
+use mathlib.Core.Path.{sym, _∙_}
 use Rattle.fields.proofs.Numbers.{number-two}
 use Rattle.bundle.specs.Opening.{openTable, opens}
 use Rattle.bundle.proofs.Tables.{stops, settle-stops}
@@ -57,7 +57,7 @@ returns-3 c =
     let g = c .before .before .before .before .before .before .before .before .before .before .before .entry .given .0 in
     let start = a .place + 6 in
     let y = c .before .before .before .before .before .before .before .before .before .before .before .before .before .before .before .before .before .shared-slice-known .given in
-    open-stops _ _ _ (a .place) _ (sym (c .before .before .before .before .before .before .before .before .before .before .before .before .before .before .before .own-refusal .ensures) ∙ c .before .before .before .before .before .before .before .before .before .before .before .before .before .before .if1 .left) refl _ _ _ e
+    open-stops _ _ _ (a .place) _ (sym (c .before .before .before .before .before .before .before .before .before .before .before .before .before .before .before .own-refusal .ensures) ∙ c .before .before .before .before .before .before .before .before .before .before .before .before .before .before .if1 .left) _ _ _ e
     (omega (arith, number-two (a .bundle .now) (a .place), y (a .place), y (a .place + 1))) _ _
     (start + g .0 - start) (start + g .0 + g .1 .0 - (start + g .0)) (g .1 .1 .0 - (start + g .0 + g .1 .0))
     (c .before .before .before .before .before .unwrap .ensures) (omega arith) (omega arith) (omega arith) (c .before .if2 .taken))
@@ -71,7 +71,7 @@ returns-4 c =
     let g = c .before .before .before .before .before .before .before .before .before .before .before .entry .given .0 in
     let start = a .place + 6 in
     let y = c .before .before .before .before .before .before .before .before .before .before .before .before .before .before .before .before .before .shared-slice-known .given in
-    open-done _ _ _ (a .place) _ (sym (c .before .before .before .before .before .before .before .before .before .before .before .before .before .before .before .own-refusal .ensures) ∙ c .before .before .before .before .before .before .before .before .before .before .before .before .before .before .if1 .left) refl _ _ _ e
+    open-done _ _ _ (a .place) _ (sym (c .before .before .before .before .before .before .before .before .before .before .before .before .before .before .before .own-refusal .ensures) ∙ c .before .before .before .before .before .before .before .before .before .before .before .before .before .before .if1 .left) _ _ _ e
     (omega (arith, number-two (a .bundle .now) (a .place), y (a .place), y (a .place + 1))) _ _
     (start + g .0 - start) (start + g .0 + g .1 .0 - (start + g .0)) (g .1 .1 .0 - (start + g .0 + g .1 .0))
     (c .before .before .before .before .before .unwrap .ensures) (omega arith) (omega arith) (omega arith) (c .before .if2 .left))

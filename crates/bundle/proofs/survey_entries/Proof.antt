@@ -4,14 +4,14 @@ use mathlib.Core.Path.{_≡_, refl, sym, _∙_}
 use native.Mathlib.Omega.{arith}
 use lib.ListN.{length}
 use borrow.Author.Needs.{needs}
-use Rattle.bundle.specs.Format.{tagLength}
+use Rattle.bundle.specs.Format.{version1}
 use Rattle.bundle.specs.Survey.{entriesFrom}
 use Rattle.bundle.proofs.Entries.{whole-at, not-whole, walk-end, walk-full, walk-bad, walk-next, last-bad, last-good}
 use Rattle.bundle.proofs.survey_entries.Statement.{statement}
 use Rattle.bundle.proofs.survey_entries.Tie as tie
 
 abbrev Inv-loop : tie.InvT-loop
-Inv-loop bundle place₀ count₀ place count = (entriesFrom tagLength bundle 5 0 ≡ entriesFrom tagLength bundle place count) × (count ≤ 65535)
+Inv-loop bundle place₀ count₀ place count = (entriesFrom version1 bundle 5 0 ≡ entriesFrom version1 bundle place count) × (count ≤ 65535)
 
 abbrev μ-loop : tie.MeasureT-loop
 μ-loop bundle place₀ count₀ place count = length bundle - place
