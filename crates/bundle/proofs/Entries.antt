@@ -15,7 +15,7 @@ use Rattle.spongewrap.specs.Refusals.{longBody}
 use Rattle.bundle.proofs.Entry.{the-type}
 use Rattle.bundle.specs.declared.Entry.{Entry}
 use Rattle.bundle.specs.declared.Entry.the-variants.{Whole, Short, Large, Past}
-use Rattle.bundle.specs.Format.{Version, most, headerLength, bodyLength, nextAt, choose, entryAt}
+use Rattle.bundle.specs.Format.{Version, most, headerLength, bodyLength, nextAt, WholeAt, choose, entryAt}
 use Rattle.bundle.specs.Answers.{Told, refused, accepted, by, _orElse_, entryTold}
 use Rattle.bundle.specs.Survey.{unlabelled, last, walk, entriesFrom, surveys}
 use Rattle.refusal.proofs.Rows.{taken, passed}
@@ -52,14 +52,7 @@ unfolding choose
 unless false x e h m n q d = (refl, q)
 unless true x e h m n q d = absurd (d q)
 
-pub record Whole-at (v : Version) (b : List ℕ) (place h m n : ℕ) : Type 0 where
-  pub header : h ≡ headerLength b place
-  pub body : m ≡ bodyLength b place
-  pub next : n ≡ nextAt v b place
-  pub small : m ≤ 1048576
-  pub ends : n ≤ length b
-
-pub whole-at : (v : Version) (b : List ℕ) (place h m n : ℕ) → entryAt v b place ≡ Whole h m n → Whole-at v b place h m n
+pub whole-at : (v : Version) (b : List ℕ) (place h m n : ℕ) → entryAt v b place ≡ Whole h m n → WholeAt v b place h m n
 unfolding entryAt
 whole-at v b place h m n e =
     let p = unless (ltb (length b - place) 6) Short _ h m n e (λ z. let o : _≡_ {A = ℕ} 0 1 = cc in omega arith) in
@@ -70,7 +63,7 @@ whole-at v b place h m n e =
     let en : nextAt v b place ≡ n = cc in
     let l : bodyLength b place ≤ 1048576 = ltb-false 1048576 (bodyLength b place) (q .0) in
     let x : nextAt v b place ≤ length b = ltb-false (length b) (nextAt v b place) (r .0) in
-    record { header = sym eh; body = sym em; next = sym en; small = omega arith; ends = omega arith }
+    record { is-header = sym eh; is-body = sym em; is-next = sym en; small = omega arith; ends = omega arith }
 
 -- an entry that is none of `Whole` is refused
 pub not-whole : (e : Entry) (place : ℕ) → (tagOf the-type e ≡ 1) ⊎ ((tagOf the-type e ≡ 2) ⊎ (tagOf the-type e ≡ 3)) → entryTold e place .number ≡ 0 → ⊥
@@ -117,7 +110,7 @@ module _ (v : Version) (b : List ℕ) (place k : ℕ) where
 
     pub walk-next : k < 65535 → (h m n : ℕ) → entryAt v b place ≡ Whole h m n → entriesFrom v b place k ≡ entriesFrom v b n (k + 1)
     unfolding by
-    walk-next l h m n e = walk-on l ∙ rw (e, whole-at v b place h m n e .next)
+    walk-next l h m n e = walk-on l ∙ rw (e, whole-at v b place h m n e .is-next)
 
 -- ---- the last check, by what was found of entry zero
 

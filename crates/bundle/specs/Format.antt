@@ -1,7 +1,7 @@
 -- The format of a bundle, byte by byte, and the entry rules (document 01, "Bundle, version 1").
 -- Byte 0 is the version. Bytes 1 to 4: how many bytes follow, big-endian. Then entries: header length (2 bytes), body length (4),
 -- header, ciphertext, tag of the version's length. Lengths are big-endian.
-use Prim.Native.Nat.{ℕ, _+_, _-_}
+use Prim.Native.Nat.{ℕ, _+_, _-_, _≤_}
 use mathlib.Core.Path.{_≡_, refl}
 use mathlib.Core.List.{List, _++_}
 use mathlib.Core.Bool.{Bool, true, false, _||_}
@@ -35,9 +35,14 @@ most = 16777216
 
 -- ---- an entry, by its parts
 
--- its bytes, and how many they are for a header and a body of these lengths
+-- its bytes, first those before the ciphertext, for a body of n bytes
+abbrev pub frontOf : List ℕ → ℕ → List ℕ
+frontOf h n = bytesOf 2 (length h) ++ (bytesOf 4 n ++ h)
+
 unfoldable pub entryOf : Session → List ℕ → List ℕ → List ℕ
-entryOf s h b = bytesOf 2 (length h) ++ (bytesOf 4 (length b) ++ (h ++ (sealing desk s h b ++ tagOf desk s h b)))
+entryOf s h b = frontOf h (length b) ++ (sealing desk s h b ++ tagOf desk s h b)
+
+-- how many they are for a header and a body of these lengths
 
 abbrev pub size : Version → ℕ → ℕ → ℕ
 size v header body = 6 + header + body + v .tag
@@ -61,6 +66,14 @@ tagAt v b place = take (v .tag) (drop (place + 6 + headerLength b place + bodyLe
 
 abbrev pub nextAt : Version → List ℕ → ℕ → ℕ
 nextAt v b place = place + size v (headerLength b place) (bodyLength b place)
+
+-- an entry with these lengths, and this place after it, is whole
+pub record WholeAt (v : Version) (b : List ℕ) (place header body next : ℕ) : Type 0 where
+  pub is-header : header ≡ headerLength b place
+  pub is-body : body ≡ bodyLength b place
+  pub is-next : next ≡ nextAt v b place
+  pub small : body ≤ 1048576
+  pub ends : next ≤ length b
 
 -- ---- the entry rules
 

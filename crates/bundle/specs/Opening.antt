@@ -4,7 +4,7 @@ use mathlib.Core.List.{List, [], _∷_, _++_}
 use lib.ListN.{length, drop}
 use Rattle.spongewrap.specs.Desk.{desk}
 use Rattle.refusal.specs.Rows.{short}
-use Rattle.spongewrap.specs.Sessions.{next, recovered, foreign}
+use Rattle.spongewrap.specs.Sessions.{next, recovered, foreign, unwraps, Seen as Unwrapped}
 use Rattle.spongewrap.specs.declared.Session.{Session}
 use Rattle.bundle.specs.Format.{Version, bodyLength, headerAt, cipherAt, tagAt, nextAt, entryAt}
 use Rattle.bundle.specs.Answers.{Told, accepted, placed, _orElse_, own, entryTold, Seen, settled}
@@ -20,6 +20,10 @@ openTable v s b place out =
 -- the body of the entry
 unfoldable pub bodyAt : Session → List ℕ → ℕ → List ℕ
 bodyAt s b place = recovered desk s (headerAt b place) (cipherAt b place)
+
+-- what an unwrap of its parts gives
+abbrev pub unwrapsAt : Version → Session → List ℕ → ℕ → List ℕ → Unwrapped
+unwrapsAt v s b place o = unwraps desk s (headerAt b place) (cipherAt b place) (tagAt v b place) o
 
 unfoldable pub opens : Version → Session → List ℕ → ℕ → List ℕ → Seen
 opens v s b place o =

@@ -2,16 +2,17 @@
 // A bundle is surveyed as it stands; its entries are opened one by one, and it is started and added to in place.
 ghost use mathlib.Core.Path.{_≡_};
 ghost use Prim.Native.Nat.{_+_, _≤_};
+ghost use mathlib.Core.List.{[]};
 ghost use lib.ListN.{length};
 ghost use lib.Seq.{sets};
 ghost use Rattle.refusal.specs.Rows.{first};
-ghost use Rattle.spongewrap.specs.Sessions.{cost, next};
+ghost use Rattle.spongewrap.specs.Sessions.{cost, next, seen as unwrapSeen};
 ghost use Rattle.spongewrap.specs.Desk.{desk};
-ghost use Rattle.bundle.specs.Format.{version1, bundleRate, entryOf, size, entryAt, badLabel};
-ghost use Rattle.bundle.specs.Answers.{refused, own, entryTold, surveyTold, seen};
+ghost use Rattle.bundle.specs.Format.{version1, bundleRate, most, frontOf, entryOf, size, WholeAt, entryAt, badLabel};
+ghost use Rattle.bundle.specs.Answers.{refused, by, own, entryTold, surveyTold, seen};
 ghost use Rattle.bundle.specs.Survey.{unlabelled, entriesFrom, surveys};
-ghost use Rattle.bundle.specs.Opening.{opens};
-ghost use Rattle.bundle.specs.Writing.{Ready, startTable, starts, endOf, bufferTable, addTable, adds};
+ghost use Rattle.bundle.specs.Opening.{unwrapsAt, opens};
+ghost use Rattle.bundle.specs.Writing.{Ready, startTable, bundleOf, starts, endOf, endWith, bufferTable, addTable, withEntry, adds};
 use spongewrap::Session;
 use spongewrap::orders;
 
@@ -258,6 +259,60 @@ fn own_refusal(s: Session) -> u8
     orders::of_session(s, s.rate != RATE, s.tag as usize != TAG)
 }
 
+// Unwraps the parts of the whole entry at a place.
+fn unwrap_at(
+    s: Session,
+    bundle: &[u8],
+    place: usize,
+    header: usize,
+    body: usize,
+    next: usize,
+    out: &mut [u8],
+) -> spongewrap::Answer
+    requires { ⌜ WholeAt version1 (now bundle) place header body next ⌝ }
+    ensures { λ r. ⌜ unwrapSeen r (now (out .exit)) ≡ unwrapsAt version1 s (now (bundle .entry)) place (now (out .entry)) ⌝ }
+{
+    let start = place + LENGTHS;
+    let cipher = start + header;
+    let tag = cipher + body;
+    spongewrap::unwrap(
+        s,
+        &bundle[start..cipher],
+        &bundle[cipher..tag],
+        &bundle[tag..next],
+        out,
+    )
+}
+
+// The answer to an opening, by that of its unwrap: a refusal carries the place that was asked for, else it is the next entry's.
+fn placed(done: spongewrap::Answer, place: usize, next: usize) -> Answer
+    ensures { λ r. ⌜ r ≡ record { number = done .number; place = by (done .number) place next; session = done .session } ⌝ }
+{
+    let number = done.number;
+    let session = done.session;
+    if number != 0 {
+        return answered(number, place, session);
+    }
+    answered(0, next, session)
+}
+
+// Opens the whole entry at a place, past the checks of session and entry.
+fn open_whole(
+    s: Session,
+    bundle: &[u8],
+    place: usize,
+    header: usize,
+    body: usize,
+    next: usize,
+    out: &mut [u8],
+) -> Answer
+    requires { ⌜ (first (own version1 s) ≡ 0) × (entryAt version1 (now bundle) place ≡ Entry.Whole header body next) ⌝ }
+    ensures { λ r. ⌜ seen r (now (out .exit)) ≡ opens version1 s (now (bundle .entry)) place (now (out .entry)) ⌝ }
+{
+    let done = unwrap_at(s, bundle, place, header, body, next, out);
+    placed(done, place, next)
+}
+
 // Opens the entry at a place: its body goes to the first bytes of `out`, and the answer's place is the next entry's.
 // A refusal carries the place that was asked for.
 pub fn open_entry(s: Session, bundle: &[u8], place: usize, out: &mut [u8]) -> Answer
@@ -272,22 +327,19 @@ pub fn open_entry(s: Session, bundle: &[u8], place: usize, out: &mut [u8]) -> An
         let r = entry_refusal(entry, place);
         return answered(r.number, r.place, s);
     };
+    open_whole(s, bundle, place, header, body, next, out)
+}
+
+// Writes what stands before an entry's ciphertext: the two lengths and the header. Answers the ciphertext's place.
+fn write_front(header: &[u8], body: usize, bundle: &mut [u8], place: usize) -> usize
+    requires { ⌜ (length (now header) ≤ 65535) × (body ≤ 1048576) × (place + 6 + length (now header) ≤ length (now bundle)) ⌝ }
+    ensures { λ r. ⌜ (r ≡ place + 6 + length (now (header .entry))) × (now (bundle .exit) ≡ sets (now (bundle .entry)) place (frontOf (now (header .entry)) body)) ⌝ }
+{
+    fields::put_u16(bundle, place, header.len() as u16);
+    fields::put_u32(bundle, place + 2, body as u32);
     let start = place + LENGTHS;
-    let cipher = start + header;
-    let tag = cipher + body;
-    let done = spongewrap::unwrap(
-        s,
-        &bundle[start..cipher],
-        &bundle[cipher..tag],
-        &bundle[tag..next],
-        out,
-    );
-    let number = done.number;
-    let session = done.session;
-    if number != 0 {
-        return answered(number, place, session);
-    }
-    answered(0, next, session)
+    fields::put_string(bundle, start, header);
+    start + header.len()
 }
 
 // Writes an entry at a place. The pair is sealed where it stands: one part of the bundle, from the ciphertext through
@@ -296,11 +348,7 @@ fn write_entry(s: Session, header: &[u8], body: &[u8], bundle: &mut [u8], place:
     requires { ⌜ Ready version1 s (length (now header)) (length (now body)) × (place + size version1 (length (now header)) (length (now body)) ≤ length (now bundle)) ⌝ }
     ensures { λ r. ⌜ (r ≡ next desk s (now (header .entry)) (now (body .entry))) × (now (bundle .exit) ≡ sets (now (bundle .entry)) place (entryOf s (now (header .entry)) (now (body .entry)))) ⌝ }
 {
-    fields::put_u16(bundle, place, header.len() as u16);
-    fields::put_u32(bundle, place + 2, body.len() as u32);
-    let start = place + LENGTHS;
-    fields::put_string(bundle, start, header);
-    let cipher = start + header.len();
+    let cipher = write_front(header, body.len(), bundle, place);
     let end = cipher + body.len() + TAG;
     let done = spongewrap::wrap(s, header, body, &mut bundle[cipher..end]);
     done.session
@@ -323,7 +371,17 @@ fn start_refusal(s: Session, label: usize, room: usize) -> u8
     0
 }
 
-// Starts a bundle: version, length, and entry zero with its label.
+// Writes the version, the length, and entry zero with its label.
+fn write_first(s: Session, label: &[u8], bundle: &mut [u8]) -> Session
+    requires { ⌜ Ready version1 s (length (now label)) 0 × (5 + size version1 (length (now label)) 0 ≤ length (now bundle)) ⌝ }
+    ensures { λ r. ⌜ (r ≡ next desk s (now (label .entry)) []) × (now (bundle .exit) ≡ sets (now (bundle .entry)) 0 (bundleOf version1 s (now (label .entry)))) ⌝ }
+{
+    bundle[0] = VERSION;
+    fields::put_u32(bundle, 1, entry_size(label.len(), 0) as u32);
+    write_entry(s, label, b"", bundle, FIRST)
+}
+
+// Starts a bundle.
 pub fn start(s: Session, label: &[u8], bundle: &mut [u8]) -> Answer
     ensures { λ r. ⌜ seen r (now (bundle .exit)) ≡ starts version1 s (now (label .entry)) (now (bundle .entry)) ⌝ }
 {
@@ -331,9 +389,7 @@ pub fn start(s: Session, label: &[u8], bundle: &mut [u8]) -> Answer
     if number != 0 {
         return answered(number, 0, s);
     }
-    bundle[0] = VERSION;
-    fields::put_u32(bundle, 1, entry_size(label.len(), 0) as u32);
-    let session = write_entry(s, label, b"", bundle, FIRST);
+    let session = write_first(s, label, bundle);
     answered(0, 0, session)
 }
 
@@ -406,7 +462,19 @@ fn buffer_refusal(bundle: &[u8], header: usize, body: usize) -> Refusal
     }
 }
 
-// Adds an entry at the stated end of the bundle, and raises the stated length. All other bytes stand.
+// Writes an entry at the stated end of the bundle, and raises the stated length.
+fn write_last(s: Session, header: &[u8], body: &[u8], bundle: &mut [u8]) -> Session
+    requires { ⌜ Ready version1 s (length (now header)) (length (now body)) × (endWith version1 (now bundle) (length (now header)) (length (now body)) ≤ length (now bundle)) × (endWith version1 (now bundle) (length (now header)) (length (now body)) ≤ most) ⌝ }
+    ensures { λ r. ⌜ (r ≡ next desk s (now (header .entry)) (now (body .entry))) × (now (bundle .exit) ≡ withEntry version1 s (now (header .entry)) (now (body .entry)) (now (bundle .entry))) ⌝ }
+{
+    let end = end_of(&bundle[..]);
+    let session = write_entry(s, header, body, bundle, end);
+    let raised = end + entry_size(header.len(), body.len());
+    fields::put_u32(bundle, 1, (raised - FIRST) as u32);
+    session
+}
+
+// Adds an entry to the bundle. All other bytes stand.
 pub fn add(s: Session, header: &[u8], body: &[u8], bundle: &mut [u8]) -> Answer
     ensures { λ r. ⌜ seen r (now (bundle .exit)) ≡ adds version1 s (now (header .entry)) (now (body .entry)) (now (bundle .entry)) ⌝ }
 {
@@ -416,9 +484,6 @@ pub fn add(s: Session, header: &[u8], body: &[u8], bundle: &mut [u8]) -> Answer
     if number != 0 {
         return answered(number, place, s);
     }
-    let end = end_of(&bundle[..]);
-    let session = write_entry(s, header, body, bundle, end);
-    let raised = end + entry_size(header.len(), body.len());
-    fields::put_u32(bundle, 1, (raised - FIRST) as u32);
+    let session = write_last(s, header, body, bundle);
     answered(0, 0, session)
 }
