@@ -4,10 +4,10 @@ use native.Mathlib.Omega.{arith}
 use mathlib.Core.Path.{_≡_, refl, sym, _∙_}
 use mathlib.Core.List.{List, [], _∷_}
 use mathlib.Core.Logic.{_⊎_, inl, inr}
-use mathlib.Core.Bool.{Bool, true, false, not}
+use mathlib.Core.Bool.{Bool, true, false}
 use lib.ListN.{length, getD}
-use lib.Dec.{eqb, ltb}
-use borrow.Author.Tests.{lt-ltb, le-ltb, ltb-false, ne-eqb}
+use lib.Dec.{ltb}
+use borrow.Author.Tests.{lt-ltb, le-ltb, ltb-false, eq-eqb, ne-eqb}
 use denote.Enum.Declared.{tagOf}
 use Rattle.fields.specs.Numbers.{numberAt}
 use Rattle.refusal.specs.Rows.{pick}
@@ -19,7 +19,7 @@ use Rattle.bundle.specs.Format.{Version, most, headerLength, bodyLength,
 use Rattle.bundle.specs.Answers.{Told, refused, accepted, by, _orElse_, entryTold}
 use Rattle.bundle.specs.Survey.{unlabelled, last, walk, entriesFrom, surveys}
 use Rattle.refusal.proofs.Rows.{taken, passed}
-use Rattle.bundle.proofs.Tables.{stops-at, goes, same, found-other, found-same}
+use Rattle.bundle.proofs.Tables.{stops-at, goes}
 
 -- ---- the rules
 
@@ -125,20 +125,8 @@ module _ (v : Version) (b : List ℕ) (k : ℕ) (e : Entry) (t : Bool) (g : e �
 
 -- ---- the survey, past its first rows
 
-module _ (v : Version) (b : List ℕ) (some : length b ≡ 0 → ⊥) (fits : ltb most (length b) ≡ false) (one : getD b 0 0 ≡ v .number) where
-  first-rows : 0 ≡ pick {A = ℕ} (eqb (length b) 0) 9 (pick (ltb most (length b)) 9 (pick (not (eqb (getD b 0 0) (v .number))) 10 0))
-  first-rows = passed 9 (ne-eqb _ _ some) (passed 9 fits (passed 10 (same _ _ one) refl))
-
-  pub survey-under : length b < 5 → refused 9 1 ≡ surveys v b
-  unfolding surveys
-  survey-under h = goes 0 first-rows refl (stops-at 9 1 _ (taken 9 _ (lt-ltb _ _ h)) refl)
-
-  module _ (head : 5 ≤ length b) (n : ℕ) (e : n ≡ numberAt 4 b 1) where
-    pub survey-stated : (n ≡ length b - 5 → ⊥) → refused 9 1 ≡ surveys v b
-    unfolding surveys
-    survey-stated d =
-        goes 0 first-rows refl (stops-at 9 1 _ (passed 9 (le-ltb _ _ head) (taken 9 _ (found-other _ _ e d))) refl)
-
-    pub survey-walks : n ≡ length b - 5 → (t : Told) → t ≡ entriesFrom v b 5 0 → t ≡ surveys v b
-    unfolding surveys
-    survey-walks f t g = goes 0 first-rows refl (goes 1 (passed 9 (le-ltb _ _ head) (passed 9 (found-same _ _ e f) refl)) refl g)
+pub survey-walks : (v : Version) (b : List ℕ) → 5 ≤ length b → length b ≤ most → getD b 0 0 ≡ v .number → numberAt 4 b 1 ≡ length b - 5
+    → surveys v b ≡ entriesFrom v b 5 0
+unfolding surveys by pick
+survey-walks v b head fits one stated =
+    rw (ne-eqb (length b) 0 (λ z. omega arith), le-ltb most (length b) fits, eq-eqb _ _ one, le-ltb (length b) 5 head, eq-eqb _ _ stated)

@@ -7,7 +7,7 @@ use mathlib.Core.Logic.{_⊎_, ⊎-elim}
 use mathlib.Core.Bool.{false}
 use lib.ListN.{length, getD, take, length-append}
 use lib.Seq.{sets}
-use borrow.Author.Tests.{le-ltb, not-false}
+use borrow.Author.Tests.{not-false}
 use Rattle.fields.specs.Numbers.{bytesOf}
 use Rattle.fields.proofs.Stores.{getD-sets-before, getD-sets-after}
 use Rattle.fields.proofs.Numbers.{length-bytesOf}
@@ -194,6 +194,4 @@ module _ (v : Version) (s : Session) (label d : List ℕ) (ps : List Pair) (all 
       let n : ℕ = length (entriesOf s xs) in
       let l : length b ≡ 5 + n = omega (arith, length-append front (entriesOf s xs), length-front) in
       rw (written-is .0, as-parts)
-      (sym
-      (survey-walks v b (λ z. omega arith) (le-ltb 16777216 (length b) (omega (arith, holds .bytes))) refl (omega arith) n
-      (sym (number-at 4 n (v .number ∷ []) (entriesOf s xs) 1 refl (omega (arith, holds .bytes)))) (omega arith) (accepted 0 (suc (length ps) ∷ [])) walked))
+      (survey-walks v b (omega arith) (omega (arith, holds .bytes)) refl (number-at 4 n (v .number ∷ []) (entriesOf s xs) 1 refl (omega (arith, holds .bytes)) ∙ omega arith) ∙ sym walked)

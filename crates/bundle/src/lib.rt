@@ -401,6 +401,14 @@ fn end_of(bundle: &[u8]) -> usize
     FIRST + fields::read_u32(bundle, 1) as usize
 }
 
+// Where it ends with one entry more, by the lengths of the entry's header and body.
+fn end_with(bundle: &[u8], header: usize, body: usize) -> usize
+    requires { ⌜ (endOf (now bundle) ≤ length (now bundle)) × (header ≤ 65535) × (body ≤ 1048576) ⌝ }
+    ensures { λ r. ⌜ r ≡ endWith version1 (now (bundle .entry)) header body ⌝ }
+{
+    end_of(bundle) + entry_size(header, body)
+}
+
 // The refusals of an add, by the lengths of its header and body. Of the buffer, the first five bytes are read.
 fn add_refusal(s: Session, bundle: &[u8], header: usize, body: usize) -> Refusal
     ensures { λ r. ⌜ refused (r .number) (r .place) ≡ addTable version1 s (now (bundle .entry)) header body ⌝ }
@@ -449,8 +457,14 @@ fn buffer_refusal(bundle: &[u8], header: usize, body: usize) -> Refusal
             place: 1,
         };
     }
-    let raised = end + entry_size(header, body);
-    if room < raised || MOST_BYTES < raised {
+    let raised = end_with(bundle, header, body);
+    if room < raised {
+        return Refusal {
+            number: refusal::NO_ROOM,
+            place: 0,
+        };
+    }
+    if MOST_BYTES < raised {
         return Refusal {
             number: refusal::NO_ROOM,
             place: 0,
@@ -468,8 +482,8 @@ fn write_last(s: Session, header: &[u8], body: &[u8], bundle: &mut [u8]) -> Sess
     ensures { λ r. ⌜ (r ≡ next desk s (now (header .entry)) (now (body .entry))) × (now (bundle .exit) ≡ withEntry version1 s (now (header .entry)) (now (body .entry)) (now (bundle .entry))) ⌝ }
 {
     let end = end_of(&bundle[..]);
+    let raised = end_with(&bundle[..], header.len(), body.len());
     let session = write_entry(s, header, body, bundle, end);
-    let raised = end + entry_size(header.len(), body.len());
     fields::put_u32(bundle, 1, (raised - FIRST) as u32);
     session
 }
