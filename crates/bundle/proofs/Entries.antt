@@ -10,13 +10,13 @@ use lib.Dec.{ltb}
 use borrow.Author.Tests.{lt-ltb, le-ltb, ltb-false, eq-eqb, ne-eqb}
 use denote.Enum.Declared.{tagOf}
 use Rattle.fields.specs.Numbers.{numberAt}
-use Rattle.refusal.specs.Rows.{pick}
+use Rattle.refusal.specs.Rows.{by, pick}
 use Rattle.spongewrap.specs.Refusals.{longBody}
 use Rattle.bundle.proofs.Entry.{the-type}
 use Rattle.bundle.specs.declared.Entry.{Entry}
 use Rattle.bundle.specs.declared.Entry.the-variants.{Whole, Short, Large, Past}
-use Rattle.bundle.specs.Format.{Version, most, headerLength, bodyLength, nextAt, WholeAt, choose, entryAt}
-use Rattle.bundle.specs.Answers.{Told, refused, accepted, by, _orElse_, entryTold}
+use Rattle.bundle.specs.Format.{Version, most, headerLength, bodyLength, nextAt, WholeAt, entryAt}
+use Rattle.bundle.specs.Answers.{Told, refused, accepted, _orElse_, entryTold}
 use Rattle.bundle.specs.Survey.{unlabelled, last, walk, entriesFrom, surveys}
 use Rattle.refusal.proofs.Rows.{taken, passed}
 use Rattle.bundle.proofs.Tables.{stops-at, goes}
@@ -25,30 +25,30 @@ use Rattle.bundle.proofs.Tables.{stops-at, goes}
 
 module _ (v : Version) (b : List ℕ) (place : ℕ) where
   pub entry-short : length b - place < 6 → Short ≡ entryAt v b place
-  unfolding entryAt choose
+  unfolding entryAt pick
   entry-short h = rw (lt-ltb (length b - place) 6 h)
 
   module _ (some : 6 ≤ length b - place) where
     pub entry-large : 1048576 < bodyLength b place → Large ≡ entryAt v b place
-    unfolding entryAt choose
+    unfolding entryAt pick
     entry-large h = rw (le-ltb (length b - place) 6 some, lt-ltb 1048576 (bodyLength b place) h)
 
     pub entry-past : bodyLength b place ≤ 1048576 → length b < nextAt v b place → Past ≡ entryAt v b place
-    unfolding entryAt choose
+    unfolding entryAt pick
     entry-past h l =
         rw (le-ltb (length b - place) 6 some, le-ltb 1048576 (bodyLength b place) h, lt-ltb (length b) (nextAt v b place) l)
 
     pub entry-whole : (h m n : ℕ) → h ≡ headerLength b place → m ≡ bodyLength b place → n ≡ nextAt v b place → m ≤ 1048576 → n ≤ length b
         → Whole h m n ≡ entryAt v b place
-    unfolding entryAt choose
+    unfolding entryAt pick
     entry-whole h m n eh em en l x =
         let y : bodyLength b place ≤ 1048576 = omega arith in
         let z : nextAt v b place ≤ length b = omega arith in
         rw (eh, em, en, le-ltb (length b - place) 6 some, le-ltb 1048576 (bodyLength b place) y, le-ltb (length b) (nextAt v b place) z)
 
 -- what a whole entry tells
-unless : (t : Bool) (x e : Entry) (h m n : ℕ) → choose t x e ≡ Whole h m n → (x ≡ Whole h m n → ⊥) → (t ≡ false) × (e ≡ Whole h m n)
-unfolding choose
+unless : (t : Bool) (x e : Entry) (h m n : ℕ) → pick t x e ≡ Whole h m n → (x ≡ Whole h m n → ⊥) → (t ≡ false) × (e ≡ Whole h m n)
+unfolding pick
 unless false x e h m n q d = (refl, q)
 unless true x e h m n q d = absurd (d q)
 
@@ -86,7 +86,7 @@ entry-bad Past f place n p q g d en ep = rw (← g, en, ep)
 
 module _ (v : Version) (b : List ℕ) (place k : ℕ) where
   pub walk-end : length b ≤ place → entriesFrom v b place k ≡ last v b k
-  unfolding entriesFrom walk choose
+  unfolding entriesFrom walk pick
   walk-end h = ended (65535 - k)
     where
       ended : (n : ℕ) → walk v n b place k ≡ last v b k
@@ -95,11 +95,11 @@ module _ (v : Version) (b : List ℕ) (place k : ℕ) where
 
   module _ (some : place < length b) where
     pub walk-full : k ≡ 65535 → entriesFrom v b place k ≡ refused 7 place
-    unfolding entriesFrom walk choose
+    unfolding entriesFrom walk pick
     walk-full e = rw (e, lt-ltb place (length b) some)
 
     pub walk-on : k < 65535 → entriesFrom v b place k ≡ (entryTold (entryAt v b place) place orElse entriesFrom v b (nextAt v b place) (k + 1))
-    unfolding entriesFrom walk choose
+    unfolding entriesFrom walk pick
     walk-on l =
         let n : 65535 - k ≡ suc (65535 - (k + 1)) = omega arith in
         rw (n, lt-ltb place (length b) some)

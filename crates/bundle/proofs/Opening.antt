@@ -1,5 +1,5 @@
 -- Opening an entry that is whole: what an unwrap of its parts gives, with the place.
-use Prim.Native.Nat.{ℕ, zero, suc, _+_, _-_, _≤_}
+use Prim.Native.Nat.{ℕ, _+_, _-_, _≤_}
 use native.Mathlib.Omega.{arith}
 use mathlib.Core.Path.{_≡_, refl, sym, ap, _∙_}
 use mathlib.Core.List.{List, _++_}
@@ -9,23 +9,17 @@ use mir.Syntax.{w8}
 use mir.Val.{Fits}
 use Rattle.fields.proofs.Numbers.{number-two}
 use Rattle.spongewrap.specs.Desk.{desk}
-use Rattle.refusal.specs.Rows.{pick, first, short}
-use Rattle.spongewrap.specs.Sessions.{next, foreign, settled, unwraps, Seen as Unwrapped, seen as unwrap-seen}
+use Rattle.refusal.specs.Rows.{by, first}
+use Rattle.spongewrap.specs.Sessions.{next, settled, unwraps, Seen as Unwrapped, seen as unwrap-seen}
 use Rattle.spongewrap.specs.declared.Session.{Session}
 use Rattle.spongewrap.specs.declared.Answer.{Answer as Unwrap}
 use Rattle.bundle.specs.declared.Entry.{Entry}
 use Rattle.bundle.specs.declared.Entry.the-variants.{Whole}
-use Rattle.bundle.specs.Format.{Version, headerLength, bodyLength, headerAt, cipherAt, tagAt, nextAt, WholeAt, entryAt}
-use Rattle.bundle.specs.Answers.{by, own, entryTold, seen}
-use Rattle.bundle.specs.Opening.{openTable, bodyAt, unwrapsAt, opens}
+use Rattle.bundle.specs.Format.{Version, headerLength, bodyLength, headerAt, cipherAt, nextAt, WholeAt, entryAt}
+use Rattle.bundle.specs.Answers.{own, entryTold, seen}
+use Rattle.bundle.specs.Opening.{lastRows, openTable, bodyAt, unwrapsAt, opens}
 use Rattle.bundle.proofs.Tables.{goes, fit, unwrap-rows, settle-stops, settle-by}
 use Rattle.bundle.proofs.Entries.{whole-at, entry-bad}
-
--- an unwrap, by its number
-unwrap-by : (n : ℕ) (s s′ : Session) (o x : List ℕ) → settled n s o s′ x ≡ unwrap-seen (record { number = n; session = by n s s′ }) (by n o (x ++ drop (length x) o))
-unfolding settled by
-unwrap-by zero s s′ o x = refl
-unwrap-by (suc n) s s′ o x = refl
 
 -- no entry is whole there
 pub open-bad : (v : Version) (s : Session) (b : List ℕ) (place : ℕ) (o : List ℕ) (e : Entry) (n p : ℕ) → first (own v s) ≡ 0 → e ≡ entryAt v b place
@@ -50,7 +44,7 @@ module _ (v : Version) (s : Session) (b : List ℕ) (place : ℕ) (o : List ℕ)
     (e : entryAt v b place ≡ Whole h m n) where
   -- the last rows of the table
   abbrev pub last-rows : ℕ
-  last-rows = pick (short (length o) (bodyLength b place)) 6 (pick (foreign desk s (headerAt b place) (cipherAt b place) (tagAt v b place)) 8 0)
+  last-rows = first (lastRows v s b place (length o))
 
   -- what the opening comes to
   pub open-told : opens v s b place o
@@ -70,13 +64,12 @@ module _ (v : Version) (s : Session) (b : List ℕ) (place : ℕ) (o : List ℕ)
     unwrap-told : unwrapsAt v s b place o
         ≡ unwrap-seen (record { number = last-rows; session = by last-rows s (next desk s (headerAt b place) (bodyAt s b place)) })
         (by last-rows o (bodyAt s b place ++ drop (length (bodyAt s b place)) o))
-    unfolding unwraps bodyAt
+    unfolding unwraps settled bodyAt
     unwrap-told =
         let whole = w in
         let lh : length (headerAt b place) ≡ headerLength b place = long (headerLength b place) (place + 6) (omega arith) in
         let lc : length (cipherAt b place) ≡ bodyLength b place = long (bodyLength b place) (place + 6 + headerLength b place) (omega arith) in
         rw (lh, lc, unwrap-rows v s (headerLength b place) (bodyLength b place) (length o) (fit v s z) (omega (arith, number-two b place, bytes place, bytes (place + 1))) (omega arith) _)
-        (unwrap-by last-rows s _ o _)
 
     pub open-is : (a : Unwrap) (o′ : List ℕ) → unwrap-seen a o′ ≡ unwrapsAt v s b place o
         → seen (record { number = a .number; place = by (a .number) place n; session = a .session }) o′ ≡ opens v s b place o

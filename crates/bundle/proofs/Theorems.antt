@@ -12,19 +12,20 @@ use Rattle.fields.specs.Numbers.{bytesOf}
 use Rattle.fields.proofs.Stores.{getD-sets-before, getD-sets-after}
 use Rattle.fields.proofs.Numbers.{length-bytesOf}
 use Rattle.spongewrap.specs.Desk.{desk}
-use Rattle.refusal.specs.Rows.{first, short}
+use Rattle.refusal.specs.Rows.{by, first}
 use Rattle.spongewrap.specs.Sessions.{next, tagOf, foreign}
 use Rattle.spongewrap.specs.declared.Session.{Session}
 use Rattle.compare.proofs.Same.{same-eq}
+use Rattle.refusal.proofs.Rows.{kept, all-clear}
 use Rattle.bundle.specs.declared.Entry.{Entry}
 use Rattle.bundle.specs.declared.Entry.the-variants.{Whole, Short, Large, Past}
-use Rattle.bundle.specs.Format.{Version, entryOf, bodyLength, headerAt, tagAt, nextAt, entryAt}
-use Rattle.bundle.specs.Answers.{Told, refused, accepted, by, own, _orElse_, entryTold, Seen, seen, settled}
+use Rattle.bundle.specs.Format.{Version, entryOf, headerAt, tagAt, nextAt, entryAt}
+use Rattle.bundle.specs.Answers.{Told, refused, accepted, own, _orElse_, entryTold, Seen, seen, settled}
 use Rattle.bundle.specs.Survey.{unlabelled, entriesFrom, surveys}
-use Rattle.bundle.specs.Opening.{openTable, bodyAt, opens}
+use Rattle.bundle.specs.Opening.{lastRows, openTable, bodyAt, opens}
 use Rattle.bundle.specs.Writing.{startTable, starts, endOf, endWith, addTable, withEntry, adds}
 use Rattle.bundle.specs.Contents.{Pair, labelled, after, entriesOf, bundleWith, addsAll, AllAdded, OpensAll}
-use Rattle.bundle.proofs.Tables.{through, clear}
+use Rattle.bundle.proofs.Tables.{through}
 use Rattle.bundle.proofs.Entries.{last-good, survey-walks}
 use Rattle.bundle.proofs.Contents.{number-at, length-entry, entry-is, Sealed, opens-all, walk-all}
 use Rattle.bundle.proofs.Written.{Holds, ends, start-accepted, number-first, add-accepted, add-is, all-holds}
@@ -36,28 +37,23 @@ pub record Kept (s : Session) (d : List ℕ) (u : Seen) : Type 0 where
   pub session : u .answer .session ≡ s
   pub buffer : u .buffer ≡ d
 
-kept : (t : Told) (s s′ : Session) (d d′ : List ℕ) → (t .number ≡ 0 → ⊥) → Kept s d (settled t s d s′ d′)
-unfolding by
-kept t s s′ d d′ w = go (t .number) w
-  where
-    go : (n : ℕ) → (n ≡ 0 → ⊥) → Kept s d (seen (record { number = n; place = t .place; session = by n s s′ }) (by n d d′))
-    go zero h = absurd (h refl)
-    go (suc n) h = record { session = refl; buffer = refl }
+settled-kept : (t : Told) (s s′ : Session) (d d′ : List ℕ) → (t .number ≡ 0 → ⊥) → Kept s d (settled t s d s′ d′)
+settled-kept t s s′ d d′ w = record { session = kept (t .number) s s′ w; buffer = kept (t .number) d d′ w }
 
 -- A refused start gives back the session that it took and leaves every byte of the buffer.
 pub start-kept : (v : Version) (s : Session) (label d : List ℕ) → (starts v s label d .answer .number ≡ 0 → ⊥) → Kept s d (starts v s label d)
 unfolding starts
-start-kept v s label d w = kept (startTable v s (length label) (length d)) s _ d _ w
+start-kept v s label d w = settled-kept (startTable v s (length label) (length d)) s _ d _ w
 
 -- A refused add gives back the session that it took and leaves every byte of the buffer.
 pub add-kept : (v : Version) (s : Session) (h b d : List ℕ) → (adds v s h b d .answer .number ≡ 0 → ⊥) → Kept s d (adds v s h b d)
 unfolding adds
-add-kept v s h b d w = kept (addTable v s d (length h) (length b)) s _ d _ w
+add-kept v s h b d w = settled-kept (addTable v s d (length h) (length b)) s _ d _ w
 
 -- A refused opening gives back the session that it took and leaves every byte of the output.
 pub open-kept : (v : Version) (s : Session) (b : List ℕ) (place : ℕ) (o : List ℕ) → (opens v s b place o .answer .number ≡ 0 → ⊥) → Kept s o (opens v s b place o)
 unfolding opens
-open-kept v s b place o w = kept (openTable v s b place (length o)) s _ o _ w
+open-kept v s b place o w = settled-kept (openTable v s b place (length o)) s _ o _ w
 
 -- ---- the places of an opening
 
@@ -112,9 +108,8 @@ unfolding opens openTable bodyAt foreign
 opened-tag v s b place o e =
     let p = through (first (own v s)) place _ e in
     let q = through _ place (accepted (nextAt v b place) []) (past-entry (entryAt v b place) place _ (p .1)) in
-    let r = clear (short (length o) (bodyLength b place)) 5 _ (q .0) in
-    let f = clear _ 7 0 (r .1) in
-    same-eq _ _ (not-false _ (f .0))
+    let c = all-clear (lastRows v s b place (length o)) refl (q .0) in
+    same-eq _ _ (not-false _ (c .1 .0))
 
 -- So a header is covered by its tag: where two bundles open at one place under the same tag, the tags that are recomputed over
 -- either header are equal, however the headers differ.

@@ -1,10 +1,10 @@
 -- What answers say: a number, a place and values (document 01, "Refusal numbers" and "Bundle, version 1").
-use Prim.Native.Nat.{ℕ, zero, suc}
+use Prim.Native.Nat.{ℕ}
 use mathlib.Core.List.{List, [], _∷_}
 use mathlib.Core.Bool.{Bool, not}
 use lib.Dec.{eqb}
 use Rattle.spongewrap.specs.Desk.{desk}
-use Rattle.refusal.specs.Rows.{first}
+use Rattle.refusal.specs.Rows.{first, by}
 use Rattle.spongewrap.specs.Refusals.{full, ownRows}
 use Rattle.spongewrap.specs.declared.Session.{Session}
 use Rattle.bundle.specs.declared.Entry.{Entry}
@@ -27,11 +27,6 @@ abbrev pub accepted : ℕ → List ℕ → Told
 accepted place values = record { number = 0; place = place; values = values }
 
 -- ---- tables of refusals: the first that refuses, else what stands last
-
--- x where the number refuses, y where it is 0
-unfoldable pub by : {A : Type 0} → ℕ → A → A → A
-by zero x y = y
-by (suc n) x y = x
 
 infixr 10 _orElse_
 abbrev pub _orElse_ : Told → Told → Told

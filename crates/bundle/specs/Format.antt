@@ -4,10 +4,11 @@
 use Prim.Native.Nat.{ℕ, _+_, _-_, _≤_}
 use mathlib.Core.Path.{_≡_, refl}
 use mathlib.Core.List.{List, _++_}
-use mathlib.Core.Bool.{Bool, true, false, _||_}
+use mathlib.Core.Bool.{Bool, false}
 use lib.ListN.{length, take, drop}
 use lib.Dec.{ltb}
 use Rattle.fields.specs.Numbers.{numberAt, bytesOf}
+use Rattle.refusal.specs.Rows.{pick, outside}
 use Rattle.spongewrap.specs.Desk.{desk}
 use Rattle.spongewrap.specs.Refusals.{badSize, longBody}
 use Rattle.spongewrap.specs.Sessions.{sealing, tagOf}
@@ -77,18 +78,14 @@ pub record WholeAt (v : Version) (b : List ℕ) (place header body next : ℕ) :
 
 -- ---- the entry rules
 
-unfoldable pub choose : {A : Type 0} → Bool → A → A → A
-choose true x y = x
-choose false x y = y
-
 -- malformed: under 6 bytes left; a body length over 1,048,576; not enough bytes for the entry
 unfoldable pub entryAt : Version → List ℕ → ℕ → Entry
 entryAt v b place =
-    choose (ltb (length b - place) 6) Short
-    (choose (longBody (bodyLength b place)) Large
-    (choose (ltb (length b) (nextAt v b place)) Past
+    pick (ltb (length b - place) 6) Short
+    (pick (longBody (bodyLength b place)) Large
+    (pick (ltb (length b) (nextAt v b place)) Past
     (Whole (headerLength b place) (bodyLength b place) (nextAt v b place))))
 
 -- entry zero has a label of 16 to 64 bytes and an empty body
 abbrev pub badLabel : ℕ → Bool
-badLabel n = ltb n 16 || ltb 64 n
+badLabel n = outside 16 64 n

@@ -1,6 +1,7 @@
 -- Opening the entry at a given place (document 01, "Bundle, version 1": "Opening the entry at a given place").
 use Prim.Native.Nat.{ℕ}
 use mathlib.Core.List.{List, [], _∷_, _++_}
+use mathlib.Core.Bool.{Bool}
 use lib.ListN.{length, drop}
 use Rattle.spongewrap.specs.Desk.{desk}
 use Rattle.refusal.specs.Rows.{short}
@@ -9,12 +10,17 @@ use Rattle.spongewrap.specs.declared.Session.{Session}
 use Rattle.bundle.specs.Format.{Version, bodyLength, headerAt, cipherAt, tagAt, nextAt, entryAt}
 use Rattle.bundle.specs.Answers.{Told, accepted, placed, _orElse_, own, entryTold, Seen, settled}
 
+-- the rows that an unwrap brings
+abbrev pub lastRows : Version → Session → List ℕ → ℕ → ℕ → List (Bool × ℕ)
+lastRows v s b place out =
+    (short out (bodyLength b place), 6) ∷ (foreign desk s (headerAt b place) (cipherAt b place) (tagAt v b place), 8) ∷ []
+
 -- 1, 3, 7, then 9 under the entry rules, 6, 8, each at that place; else the next place. `out` is the lent output's length
 unfoldable pub openTable : Version → Session → List ℕ → ℕ → ℕ → Told
 openTable v s b place out =
     placed place (own v s)
     orElse entryTold (entryAt v b place) place
-    orElse placed place ((short out (bodyLength b place), 6) ∷ (foreign desk s (headerAt b place) (cipherAt b place) (tagAt v b place), 8) ∷ [])
+    orElse placed place (lastRows v s b place out)
     orElse accepted (nextAt v b place) []
 
 -- the body of the entry

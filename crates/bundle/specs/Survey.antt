@@ -5,9 +5,10 @@ use mathlib.Core.Bool.{Bool, true, not, _||_}
 use lib.ListN.{length, getD}
 use lib.Dec.{eqb, ltb}
 use Rattle.fields.specs.Numbers.{numberAt}
+use Rattle.refusal.specs.Rows.{pick}
 use Rattle.bundle.specs.declared.Entry.{Entry}
 use Rattle.bundle.specs.declared.Entry.the-variants.{Whole, Short, Large, Past}
-use Rattle.bundle.specs.Format.{Version, most, nextAt, choose, entryAt, badLabel}
+use Rattle.bundle.specs.Format.{Version, most, nextAt, entryAt, badLabel}
 use Rattle.bundle.specs.Answers.{Told, refused, accepted, placed, _orElse_, entryTold}
 
 -- entry zero is missing, has a body, or its header isn't 16 to 64 bytes
@@ -23,9 +24,9 @@ last v b k = placed 5 ((unlabelled (entryAt v b 5), 11) ∷ []) orElse accepted 
 
 -- entry by entry: number k is at `place`, and n more may come before entry 65,535, which is 7 at its first byte
 unfoldable pub walk : Version → ℕ → List ℕ → ℕ → ℕ → Told
-walk v zero b place k = choose (ltb place (length b)) (refused 7 place) (last v b k)
+walk v zero b place k = pick (ltb place (length b)) (refused 7 place) (last v b k)
 walk v (suc n) b place k =
-    choose (ltb place (length b)) (entryTold (entryAt v b place) place orElse walk v n b (nextAt v b place) (k + 1)) (last v b k)
+    pick (ltb place (length b)) (entryTold (entryAt v b place) place orElse walk v n b (nextAt v b place) (k + 1)) (last v b k)
 
 unfoldable pub entriesFrom : Version → List ℕ → ℕ → ℕ → Told
 entriesFrom v b place k = walk v (65535 - k) b place k

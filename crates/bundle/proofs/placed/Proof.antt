@@ -1,12 +1,12 @@
 -- By the number.
 use borrow.Author.Needs.{needs}
-use Rattle.bundle.specs.Answers.{by}
-use Rattle.bundle.proofs.Tables.{by-stops}
+use Rattle.refusal.specs.Rows.{by}
+use Rattle.refusal.proofs.Rows.{kept}
 use Rattle.bundle.proofs.placed.Statement.{statement}
 use Rattle.bundle.proofs.placed.Tie as tie
 
 returns : tie.Need-returns
-returns c = rw (c .answered .ensures, by-stops _ _ _ (c .before .if1 .taken))
+returns c = rw (c .answered .ensures, kept _ _ _ (c .before .if1 .taken))
 
 returns-2 : tie.Need-returns-2
 unfolding by
