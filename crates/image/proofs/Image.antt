@@ -1,80 +1,109 @@
--- A session and its image are one-to-one, both ways.
+-- A session and its image are one-to-one, both ways: the state, and field by field the numbers behind it.
 use mathlib.Core.Path.{_≡_, refl, sym, ap, _∙_}
-use mathlib.Core.List.{List, [], _∷_, _++_, append-assoc, append-nil}
-use Prim.Native.Nat.{ℕ, zero, suc, _+_, _/_, _^_, _≤_, _<_}
-use native.Mathlib.Nat.{zero-lt-suc}
+use mathlib.Core.List.{List, [], _∷_, _++_, map, append-assoc, append-nil}
+use Prim.Native.Nat.{ℕ, zero, suc, _+_, _/_, _^_, _<_}
+use native.Mathlib.Nat.{zero-lt-suc, add-assoc}
 use native.Mathlib.Omega.{arith}
-use lib.ListN.{length, getD, take, drop, replicate, length-append, length-drop, take-append-drop, drop-of-length-le}
-use lib.Seq.{sets, sets-eq, take-at, drop-at, drop-drop, take-all, length-take-le}
+use lib.ListN.{length, getD, take, drop, length-append, take-append-drop, drop-of-length-le}
+use lib.Seq.{sets, sets-eq, take-at, drop-drop, take-all, length-take-le, length-front}
+use Rattle.keccak.proofs.States.{State}
 use Rattle.sponge.specs.Table.{table}
-use Rattle.sponge.specs.Bytes.{bytes, laneOf, mixed}
+use Rattle.sponge.specs.Bytes.{bytes, laneOf}
 use Rattle.sponge.proofs.Table.{table-ext}
-use Rattle.sponge.proofs.Lanes.{bytes-of-lanes, lanes-of-bytes, lane-front, lanes-read}
+use Rattle.sponge.proofs.Lanes.{bytes-of-lanes, lanes-of-bytes, lane-front}
 use Rattle.sponge.proofs.Squeeze.{length-bytes}
 use Rattle.fields.specs.Numbers.{numberAt, bytesOf}
 use Rattle.fields.proofs.Numbers.{length-bytesOf, bytes-number, number-bytes}
 use Rattle.fields.proofs.Stores.{sets-append}
 use Rattle.spongewrap.specs.declared.Session.{Session}
-use Rattle.image.specs.Image.{imageOf, sessionOf}
+use Rattle.image.specs.Image.{imageLength, fieldsOf, fieldBytes, imageOf, sessionOf}
+
+-- ---- fields, a width and a value each, one behind the other
+
+-- how many bytes they have
+abbrev total : List (ℕ × ℕ) → ℕ
+total [] = 0
+total (f ∷ fs) = f .0 + total fs
+
+-- fields of these widths read from a place on; and these stored there
+abbrev readAt : List ℕ → ℕ → List (ℕ × ℕ) → List (ℕ × ℕ)
+readAt b at [] = []
+readAt b at (f ∷ fs) = (f .0, numberAt (f .0) b at) ∷ readAt b (at + f .0) fs
+
+abbrev pub storedAt : List ℕ → ℕ → List (ℕ × ℕ) → List ℕ
+storedAt d at [] = d
+storedAt d at (f ∷ fs) = storedAt (sets d at (bytesOf (f .0) (f .1))) (at + f .0) fs
+
+-- each value fits its bytes
+unfoldable pub Within : List (ℕ × ℕ) → Type 0
+Within [] = Unit {0}
+Within (f ∷ fs) = (f .1 < 256 ^ f .0) × Within fs
+
+length-fields : (fs : List (ℕ × ℕ)) → length (fieldBytes fs) ≡ total fs
+unfolding fieldBytes
+length-fields [] = refl
+length-fields (f ∷ fs) = rw (length-append, length-bytesOf, length-fields fs)
+
+stored-fields : (d : List ℕ) (at : ℕ) (fs : List (ℕ × ℕ)) → storedAt d at fs ≡ sets d at (fieldBytes fs)
+unfolding fieldBytes
+stored-fields d at [] = refl
+stored-fields d at (f ∷ fs) =
+    let B : List ℕ = bytesOf (f .0) (f .1) in
+    stored-fields (sets d at B) (at + f .0) fs
+    ∙ sets-append d at B (fieldBytes fs) (at + f .0) (ap (λ (n : ℕ). at + n) (sym (length-bytesOf (f .0) (f .1))))
+
+-- reading what was written, and writing what was read
+read-fields : (p : List ℕ) (at : ℕ) (fs : List (ℕ × ℕ)) → length p ≡ at → Within fs → readAt (p ++ fieldBytes fs) at fs ≡ fs
+unfolding fieldBytes Within
+read-fields p at [] e h = refl
+read-fields p at (f ∷ fs) e h =
+    let B : List ℕ = bytesOf (f .0) (f .1) in
+    let n : length (p ++ B) ≡ at + f .0 = length-append p B ∙ rw (e, length-bytesOf) in
+    let i = read-fields (p ++ B) (at + f .0) fs n (h .1) in
+    rw (number-bytes (f .0) (f .1) p (fieldBytes fs) at (h .0) e, rw append-assoc at i)
+
+written-fields : (b : List ℕ) (at : ℕ) (fs : List (ℕ × ℕ)) → at + total fs ≡ length b → ((i : ℕ) → getD b i 0 < 256) → fieldBytes (readAt b at fs) ≡ drop at b
+unfolding fieldBytes
+written-fields b at [] e h = sym (drop-of-length-le b {i = at} (omega arith))
+written-fields b at (f ∷ fs) e h =
+    rw (bytes-number (f .0) b at (omega arith) h, written-fields b (at + f .0) fs (add-assoc at (f .0) (total fs) ∙ e) h, ← drop-drop (f .0) at b)
+    (take-append-drop (f .0) (drop at b))
+
+-- ---- a session
+
+-- what a session of the code is: 25 lanes of 64 bits, and numbers that their fields hold
+pub record Held (s : Session) : Type 0 where
+  pub lanes : State 64 (s .lanes)
+  pub fields : Within (fieldsOf s)
+
+-- sessions are equal by their lanes and their fields
+abbrev copied : Session → Session
+copied s = record { lanes = s .lanes; rate = s .rate; tag = s .tag; pairs = s .pairs; calls = s .calls }
+
+alike : (s r : Session) → s .lanes ≡ r .lanes → fieldsOf s ≡ fieldsOf r → copied s ≡ copied r
+alike s r e f = let v = ap (map (λ (x : ℕ × ℕ). x .1)) f in cc
 
 room : 0 < 64 / 8
 room = zero-lt-suc 7
 
--- the four numbers behind the state
-numbers : Session → List ℕ
-numbers s = bytesOf 2 (s .rate) ++ (bytesOf 2 (s .tag) ++ (bytesOf 4 (s .pairs) ++ bytesOf 8 (s .calls)))
+-- 216 is the 200 bytes of the state and the total of the fields
+pub length-image : (s : Session) → length (imageOf s) ≡ imageLength
+unfolding imageOf
+length-image s = length-append (bytes 64 (s .lanes)) (fieldBytes (fieldsOf s)) ∙ rw (length-bytes, length-fields)
 
-length-numbers : (s : Session) → length (numbers s) ≡ 16
-unfolding numbers
-length-numbers s =
-    simp (length-append, length-bytesOf)
-
--- sessions are equal by their fields
-alike : {l l′ : List ℕ} {r r′ t t′ p p′ n n′ : ℕ} → l ≡ l′ → r ≡ r′ → t ≡ t′ → p ≡ p′ → n ≡ n′
-    → _≡_ {A = Session} (record { lanes = l; rate = r; tag = t; pairs = p; calls = n }) (record { lanes = l′; rate = r′; tag = t′; pairs = p′; calls = n′ })
-alike a b c d e = cc
-
--- ---- the session that five reads make
-
-pub read : (b l : List ℕ) (r t p n : ℕ) → length b ≡ 216 → l ≡ mixed 64 (replicate 25 0) (take 200 b) → r ≡ numberAt 2 b 200 → t ≡ numberAt 2 b 202
-    → p ≡ numberAt 4 b 204 → n ≡ numberAt 8 b 208 → _≡_ {A = Session} (record { lanes = l; rate = r; tag = t; pairs = p; calls = n }) (sessionOf b)
-unfolding sessionOf
-read b l r t p n h e f g i j = alike (e ∙ lanes-read 64 room b) f g i j
-
--- ---- the image that a store after the other makes
-
-four : (d A B C D : List ℕ) → length A ≡ 2 → length B ≡ 2 → length C ≡ 4
-    → sets (sets (sets (sets d 200 A) 202 B) 204 C) 208 D ≡ sets d 200 (A ++ (B ++ (C ++ D)))
-four d A B C D a b c =
-    let u : 202 ≡ 200 + length A = omega arith in
-    let v : 204 ≡ 200 + length (A ++ B) = omega (arith, length-append A B) in
-    let w : 208 ≡ 200 + length ((A ++ B) ++ C) = omega (arith, length-append A B, length-append (A ++ B) C) in
-    let g : ((A ++ B) ++ C) ++ D ≡ A ++ (B ++ (C ++ D)) = simp append-assoc in
-    ap (λ (z : List ℕ). sets (sets z 204 C) 208 D) (sets-append d 200 A B 202 u)
-    ∙ ap (λ (z : List ℕ). sets z 208 D) (sets-append d 200 (A ++ B) C 204 v)
-    ∙ sets-append d 200 ((A ++ B) ++ C) D 208 w
-    ∙ ap (sets d 200) g
-
-pub stored : (s : Session) (d x d1 d2 d3 d4 d5 : List ℕ) → length d ≡ 216 → x ≡ take (length (take 200 d)) (bytes 64 (s .lanes)) → d1 ≡ x ++ drop 200 d
-    → d2 ≡ sets d1 200 (bytesOf 2 (s .rate)) → d3 ≡ sets d2 202 (bytesOf 2 (s .tag)) → d4 ≡ sets d3 204 (bytesOf 4 (s .pairs))
-    → d5 ≡ sets d4 208 (bytesOf 8 (s .calls)) → d5 ≡ imageOf s
-unfolding imageOf numbers
-stored s d x d1 d2 d3 d4 d5 l e e1 e2 e3 e4 e5 =
-    let p : length (take 200 d) ≡ 200 = length-take-le 200 d (omega arith) in
+-- the image that a store after the other makes
+pub stored : (s : Session) (d x r : List ℕ) → length d ≡ imageLength → x ≡ take (length (take 200 d)) (bytes 64 (s .lanes))
+    → r ≡ storedAt (x ++ drop 200 d) 200 (fieldsOf s) → r ≡ imageOf s
+unfolding imageOf
+stored s d x r l e f =
     let b : length (bytes 64 (s .lanes)) ≡ 200 = length-bytes 64 (s .lanes) in
-    let f : x ≡ bytes 64 (s .lanes) = e ∙ take-all (length (take 200 d)) (bytes 64 (s .lanes)) (omega arith) in
-    let q : length x ≡ 200 = ap length f ∙ b in
-    let n : length (numbers s) ≡ 16 = length-numbers s in
-    let m : length d1 ≡ 216 = ap length e1 ∙ length-append x (drop 200 d) ∙ omega (arith, length-drop 200 d) in
-    let r : d5 ≡ sets d1 200 (numbers s) =
-    e5 ∙ ap (λ (z : List ℕ). sets z 208 (bytesOf 8 (s .calls))) (e4 ∙ ap (λ (z : List ℕ). sets z 204 (bytesOf 4 (s .pairs))) (e3 ∙ ap (λ (z : List ℕ). sets z 202 (bytesOf 2 (s .tag))) e2))
-    ∙ four d1 (bytesOf 2 (s .rate)) (bytesOf 2 (s .tag)) (bytesOf 4 (s .pairs)) (bytesOf 8 (s .calls)) (length-bytesOf 2 (s .rate)) (length-bytesOf 2 (s .tag)) (length-bytesOf 4 (s .pairs)) in
-    let y : length d1 ≤ 200 + length (numbers s) = omega arith in
-    let z : drop (200 + length (numbers s)) d1 ≡ [] = drop-of-length-le d1 y in
-    let v : take 200 d1 ≡ bytes 64 (s .lanes) = ap (take 200) e1 ∙ take-at x (drop 200 d) 200 q ∙ f in
-    r ∙ sets-eq (numbers s) d1 200 (omega arith) ∙ rw (z, append-nil, v)
-
--- ---- one-to-one
+    let n : length (fieldBytes (fieldsOf s)) ≡ 16 = length-fields (fieldsOf s) in
+    let k : length (take 200 d) ≡ 200 = length-take-le 200 d (omega arith) in
+    let t : x ≡ bytes 64 (s .lanes) = e ∙ take-all (length (take 200 d)) (bytes 64 (s .lanes)) (omega arith) in
+    let m : length (x ++ drop 200 d) ≡ 216 = length-front d x 200 (ap length t ∙ b ∙ sym k) ∙ l in
+    f ∙ stored-fields (x ++ drop 200 d) 200 (fieldsOf s)
+    ∙ sets-eq (fieldBytes (fieldsOf s)) (x ++ drop 200 d) 200 (omega arith)
+    ∙ rw (drop-of-length-le (x ++ drop 200 d) {i = 200 + length (fieldBytes (fieldsOf s))} (omega arith), append-nil, take-at x (drop 200 d) 200 (ap length t ∙ b), t)
 
 -- the lanes are read from the first 200 bytes
 front-lanes : (b : List ℕ) → table 25 (laneOf 64 b) ≡ table 25 (laneOf 64 (take 200 b))
@@ -86,49 +115,20 @@ take-below (suc n) [] h i = zero-lt-suc 255
 take-below (suc n) (x ∷ b) h zero = h zero
 take-below (suc n) (x ∷ b) h (suc i) = take-below n b (λ j. h (suc j)) i
 
-part : (k n : ℕ) (b : List ℕ) → take n (drop k b) ++ drop (k + n) b ≡ drop k b
-part k n b = rw (← drop-drop n k b) (take-append-drop n (drop k b))
-
--- what a session of the code is: 25 lanes of 64 bits, and numbers that their fields hold
-pub record Held (s : Session) : Type 0 where
-  pub lanes : length (s .lanes) ≡ 25
-  pub lane : (j : ℕ) → getD (s .lanes) j 0 < 2 ^ 64
-  pub rate : s .rate < 256 ^ 2
-  pub tag : s .tag < 256 ^ 2
-  pub pairs : s .pairs < 256 ^ 4
-  pub calls : s .calls < 256 ^ 8
-
 -- a session is read again from its image
 pub session-image : (s : Session) → Held s → sessionOf (imageOf s) ≡ s
 unfolding imageOf sessionOf
 session-image s h =
     let X : List ℕ = bytes 64 (s .lanes) in
-    let A : List ℕ = bytesOf 2 (s .rate) in
-    let B : List ℕ = bytesOf 2 (s .tag) in
-    let C : List ℕ = bytesOf 4 (s .pairs) in
-    let D : List ℕ = bytesOf 8 (s .calls) in
     let x : length X ≡ 200 = length-bytes 64 (s .lanes) in
-    let xa : length (X ++ A) ≡ 202 = omega (arith, length-append X A, length-bytesOf 2 (s .rate)) in
-    let xb : length ((X ++ A) ++ B) ≡ 204 = omega (arith, length-append (X ++ A) B, length-bytesOf 2 (s .tag)) in
-    let xc : length (((X ++ A) ++ B) ++ C) ≡ 208 = omega (arith, length-append ((X ++ A) ++ B) C, length-bytesOf 4 (s .pairs)) in
-    let ta : X ++ (A ++ (B ++ (C ++ D))) ≡ (X ++ A) ++ (B ++ (C ++ D)) = simp append-assoc in
-    let tb : X ++ (A ++ (B ++ (C ++ D))) ≡ ((X ++ A) ++ B) ++ (C ++ D) = simp append-assoc in
-    let tc : X ++ (A ++ (B ++ (C ++ D))) ≡ (((X ++ A) ++ B) ++ C) ++ (D ++ []) = simp (append-assoc, append-nil) in
-    let l : table 25 (laneOf 64 (X ++ (A ++ (B ++ (C ++ D))))) ≡ s .lanes =
-    front-lanes (X ++ (A ++ (B ++ (C ++ D)))) ∙ ap (λ (y : List ℕ). table 25 (laneOf 64 y)) (take-at X (A ++ (B ++ (C ++ D))) 200 x)
-    ∙ lanes-of-bytes 64 room (s .lanes) (h .lanes) (h .lane) in
-    let r : numberAt 2 (X ++ (A ++ (B ++ (C ++ D)))) 200 ≡ s .rate = number-bytes 2 (s .rate) X (B ++ (C ++ D)) 200 (h .rate) x in
-    let t : numberAt 2 (X ++ (A ++ (B ++ (C ++ D)))) 202 ≡ s .tag = rw ta (number-bytes 2 (s .tag) (X ++ A) (C ++ D) 202 (h .tag) xa) in
-    let p : numberAt 4 (X ++ (A ++ (B ++ (C ++ D)))) 204 ≡ s .pairs = rw tb (number-bytes 4 (s .pairs) ((X ++ A) ++ B) D 204 (h .pairs) xb) in
-    let n : numberAt 8 (X ++ (A ++ (B ++ (C ++ D)))) 208 ≡ s .calls = rw tc (number-bytes 8 (s .calls) (((X ++ A) ++ B) ++ C) [] 208 (h .calls) xc) in
-    alike l r t p n
+    let l : table 25 (laneOf 64 (X ++ fieldBytes (fieldsOf s))) ≡ s .lanes =
+    front-lanes (X ++ fieldBytes (fieldsOf s)) ∙ ap (λ (y : List ℕ). table 25 (laneOf 64 y)) (take-at X (fieldBytes (fieldsOf s)) 200 x)
+    ∙ lanes-of-bytes 64 room (s .lanes) (h .lanes .count) (h .lanes .below) in
+    alike (sessionOf (imageOf s)) s l (read-fields X 200 (fieldsOf s) x (h .fields))
 
 -- and an image from its session
-pub image-session : (b : List ℕ) → length b ≡ 216 → ((i : ℕ) → getD b i 0 < 256) → imageOf (sessionOf b) ≡ b
+pub image-session : (b : List ℕ) → length b ≡ imageLength → ((i : ℕ) → getD b i 0 < 256) → imageOf (sessionOf b) ≡ b
 unfolding imageOf sessionOf
 image-session b l h =
-    let s : bytes 64 (table 25 (laneOf 64 b)) ≡ take 200 b =
-    ap (bytes 64) (front-lanes b) ∙ bytes-of-lanes 64 room (take 200 b) (length-take-le 200 b (omega arith)) (take-below 200 b h) in
-    let e : take 8 (drop 208 b) ≡ drop 208 b = take-all 8 (drop 208 b) (omega (arith, length-drop 208 b)) in
-    rw (s, bytes-number 2 b 200 (omega arith) h, bytes-number 2 b 202 (omega arith) h, bytes-number 4 b 204 (omega arith) h, bytes-number 8 b 208 (omega arith) h, e, part 204 4 b, part 202 2 b, part 200 2 b)
+    rw (front-lanes b, bytes-of-lanes 64 room (take 200 b) (length-take-le 200 b (omega arith)) (take-below 200 b h), written-fields b 200 (fieldsOf (sessionOf b)) (sym l) h)
     (take-append-drop 200 b)
