@@ -1,10 +1,10 @@
 -- A session and its image are one-to-one, both ways: the state, and field by field the numbers behind it.
 use mathlib.Core.Path.{_≡_, refl, sym, ap, _∙_}
 use mathlib.Core.List.{List, [], _∷_, _++_, map, append-assoc, append-nil}
-use Prim.Native.Nat.{ℕ, zero, suc, _+_, _/_, _^_, _<_}
+use Prim.Native.Nat.{ℕ, _+_, _/_, _^_, _<_}
 use native.Mathlib.Nat.{zero-lt-suc, add-assoc}
 use native.Mathlib.Omega.{arith}
-use lib.ListN.{length, getD, take, drop, length-append, take-append-drop, drop-of-length-le}
+use lib.ListN.{length, take, drop, length-append, take-append-drop, drop-of-length-le}
 use lib.Seq.{sets, sets-eq, take-at, drop-drop, take-all, length-take-le, length-front}
 use Rattle.keccak.proofs.States.{State}
 use Rattle.sponge.specs.Table.{table}
@@ -17,6 +17,8 @@ use Rattle.fields.proofs.Numbers.{length-bytesOf, bytes-number, number-bytes}
 use Rattle.fields.proofs.Stores.{sets-append}
 use Rattle.spongewrap.specs.declared.Session.{Session}
 use Rattle.image.specs.Image.{imageLength, fieldsOf, fieldBytes, imageOf, sessionOf}
+use Rattle.image.specs.Runs.{OfBytes}
+use Rattle.image.proofs.Bounds.{below-take}
 
 -- ---- fields, a width and a value each, one behind the other
 
@@ -62,7 +64,7 @@ read-fields p at (f ∷ fs) e h =
     let i = read-fields (p ++ B) (at + f .0) fs n (h .1) in
     rw (number-bytes (f .0) (f .1) p (fieldBytes fs) at (h .0) e, rw append-assoc at i)
 
-written-fields : (b : List ℕ) (at : ℕ) (fs : List (ℕ × ℕ)) → at + total fs ≡ length b → ((i : ℕ) → getD b i 0 < 256) → fieldBytes (readAt b at fs) ≡ drop at b
+written-fields : (b : List ℕ) (at : ℕ) (fs : List (ℕ × ℕ)) → at + total fs ≡ length b → OfBytes b → fieldBytes (readAt b at fs) ≡ drop at b
 unfolding fieldBytes
 written-fields b at [] e h = sym (drop-of-length-le b {i = at} (omega arith))
 written-fields b at (f ∷ fs) e h =
@@ -109,12 +111,6 @@ stored s d x r l e f =
 front-lanes : (b : List ℕ) → table 25 (laneOf 64 b) ≡ table 25 (laneOf 64 (take 200 b))
 front-lanes b = table-ext 25 _ _ (λ j k. sym (lane-front 64 room b 200 j (omega arith)))
 
-take-below : (n : ℕ) (b : List ℕ) → ((i : ℕ) → getD b i 0 < 256) → (i : ℕ) → getD (take n b) i 0 < 256
-take-below zero b h i = zero-lt-suc 255
-take-below (suc n) [] h i = zero-lt-suc 255
-take-below (suc n) (x ∷ b) h zero = h zero
-take-below (suc n) (x ∷ b) h (suc i) = take-below n b (λ j. h (suc j)) i
-
 -- a session is read again from its image
 pub session-image : (s : Session) → Held s → sessionOf (imageOf s) ≡ s
 unfolding imageOf sessionOf
@@ -127,8 +123,8 @@ session-image s h =
     alike (sessionOf (imageOf s)) s l (read-fields X 200 (fieldsOf s) x (h .fields))
 
 -- and an image from its session
-pub image-session : (b : List ℕ) → length b ≡ imageLength → ((i : ℕ) → getD b i 0 < 256) → imageOf (sessionOf b) ≡ b
+pub image-session : (b : List ℕ) → length b ≡ imageLength → OfBytes b → imageOf (sessionOf b) ≡ b
 unfolding imageOf sessionOf
 image-session b l h =
-    rw (front-lanes b, bytes-of-lanes 64 room (take 200 b) (length-take-le 200 b (omega arith)) (take-below 200 b h), written-fields b 200 (fieldsOf (sessionOf b)) (sym l) h)
+    rw (front-lanes b, bytes-of-lanes 64 room (take 200 b) (length-take-le 200 b (omega arith)) (below-take 256 (zero-lt-suc 255) 200 b h), written-fields b 200 (fieldsOf (sessionOf b)) (sym l) h)
     (take-append-drop 200 b)

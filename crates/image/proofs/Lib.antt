@@ -1,3 +1,5 @@
+pub mod Bounds
 pub mod Image
 pub mod Calls
 pub mod Outcomes
+pub mod Held
