@@ -1,10 +1,11 @@
 -- A call over an image by its outcome: an image of another length, or the session's own call, settled.
-use mathlib.Core.Path.{_≡_, refl, sym, _∙_}
-use mathlib.Core.List.{List, []}
+use mathlib.Core.Path.{_≡_, refl, sym, ap, _∙_}
+use mathlib.Core.List.{List, [], _++_}
 use mathlib.Core.Bool.{Bool, true, false}
-use Prim.Native.Nat.{ℕ, zero, suc}
+use Prim.Native.Nat.{ℕ, zero, suc, _≤_}
+use native.Mathlib.Omega.{arith}
 use lib.Dec.{eqb}
-use lib.ListN.{length}
+use lib.ListN.{length, take, drop}
 use borrow.Author.Tests.{eq-eqb, ne-eqb}
 use Rattle.spongewrap.specs.Desk.{desk}
 use Rattle.spongewrap.specs.Sessions as sessions
@@ -13,7 +14,7 @@ use Rattle.spongewrap.specs.declared.Answer.{Answer}
 use Rattle.spongewrap.specs.declared.Session.{Session}
 use Rattle.spongewrap.proofs.Theorems as theorems
 use Rattle.image.specs.Image.{imageLength, imageOf, sessionOf}
-use Rattle.image.specs.Calls.{Seen, seen, kept, whole, opensImage, wrapsImage, unwrapsImage}
+use Rattle.image.specs.Calls.{Seen, seen, kept, answered, whole, opensImage, wrapsImage, unwrapsImage}
 
 -- ---- for the proofs of the calls
 
@@ -73,3 +74,32 @@ wrap-kept i h b o d = whole-kept _ i o _ (λ e. theorems.wrap-kept desk (session
 pub unwrap-kept : (i h c t o : List ℕ) → (unwrapsImage i h c t o .number ≡ 0 → ⊥) → Kept i o (unwrapsImage i h c t o)
 unfolding unwrapsImage
 unwrap-kept i h c t o d = whole-kept _ i o _ (λ e. theorems.unwrap-kept desk (sessionOf i) h c t o e .out) d
+
+-- ---- two calls on one image
+
+-- All refusals numbered 8 on one image and one lent output are the same, whatever was handed over.
+pub eights-alike : (i o h c t h′ c′ t′ : List ℕ) → unwrapsImage i h c t o .number ≡ 8 → unwrapsImage i h′ c′ t′ o .number ≡ 8
+    → unwrapsImage i h c t o ≡ unwrapsImage i h′ c′ t′ o
+unfolding unwrapsImage whole
+eights-alike i o h c t h′ c′ t′ = go (eqb (length i) imageLength)
+  where
+    go : (y : Bool) → whole y i o (unwraps desk (sessionOf i) h c t o) .number ≡ 8 → whole y i o (unwraps desk (sessionOf i) h′ c′ t′ o) .number ≡ 8
+        → whole y i o (unwraps desk (sessionOf i) h c t o) ≡ whole y i o (unwraps desk (sessionOf i) h′ c′ t′ o)
+    go false e f = refl
+    go true e f = ap (answered i) (theorems.eights-alike desk (sessionOf i) o h c t h′ c′ t′ e f)
+
+-- an accepted call was handed a whole image
+pub was-whole : (t : Bool) (i o : List ℕ) (w : sessions.Seen) → whole t i o w .number ≡ 0 → t ≡ true
+unfolding whole
+was-whole false i o w e = absurd (omega arith)
+was-whole true i o w e = refl
+
+-- What was wrapped over an image comes back exactly over the same image, and leaves the same image.
+pub wrap-unwrap : (i h b o o′ : List ℕ) → wrapsImage i h b o .number ≡ 0 → length b ≤ length o′
+    → unwrapsImage i h (take (length b) (wrapsImage i h b o .out)) (take (sessionOf i .tag) (drop (length b) (wrapsImage i h b o .out))) o′
+    ≡ seen 0 (wrapsImage i h b o .image) (b ++ drop (length b) o′)
+unfolding wrapsImage unwrapsImage whole
+wrap-unwrap i h b o o′ e l =
+    let q = was-whole (eqb (length i) imageLength) i o (wraps desk (sessionOf i) h b o) e in
+    let n = rw q at e in
+    rw (q, theorems.wrap-unwrap desk (sessionOf i) h b o n o′ l, n)

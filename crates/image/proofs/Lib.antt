@@ -3,3 +3,4 @@ pub mod Image
 pub mod Calls
 pub mod Outcomes
 pub mod Held
+pub mod Runs

@@ -1,0 +1,124 @@
+-- Demands 2 and 3 over images: a run of calls from an accepted open leaves the image of the session that the same calls lead to.
+use mathlib.Core.Path.{_≡_, refl, sym, ap, _∙_}
+use mathlib.Core.List.{List, [], _∷_, _++_, map}
+use Prim.Native.Nat.{ℕ, zero, suc, _≤_}
+use native.Mathlib.Omega.{arith}
+use lib.Dec.{eqb}
+use lib.ListN.{length, take, drop}
+use borrow.Author.Tests.{eq-eqb}
+use Rattle.spongewrap.specs.Desk.{desk}
+use Rattle.spongewrap.specs.Sessions as sessions
+use Rattle.spongewrap.specs.Sessions.{opens, wraps, unwraps}
+use Rattle.spongewrap.specs.History.{Call, answered, Pair, pairOf, content, after, accepted, Told}
+use Rattle.spongewrap.specs.History.Call.{wrapping, unwrapping}
+use Rattle.spongewrap.specs.declared.Session.{Session}
+use Rattle.spongewrap.proofs.Theorems.{wrap-kept, unwrap-kept}
+use Rattle.spongewrap.proofs.Histories.{history-tells}
+use Rattle.spongewrap.proofs.ComesBack.{same-history}
+use Rattle.image.specs.Image.{imageLength, imageOf, sessionOf}
+use Rattle.image.specs.Calls.{Seen, seen, kept, whole, opensImage, wrapsImage, unwrapsImage}
+use Rattle.image.specs.Runs.{callsImage, imageAfter, pairWith, acceptedImage, OfBytes, AllHanded}
+use Rattle.image.proofs.Image.{Held, length-image, session-image}
+use Rattle.image.proofs.Calls.{kept-accepted, was-whole, wrap-unwrap}
+use Rattle.image.proofs.Held.{open-held, call-held}
+
+-- ---- one call
+
+-- a refusal gives back the session s, so that in either case the image is that of the session s′ that a call gave
+kept-image : (n : ℕ) (s s′ : Session) → ((n ≡ 0 → ⊥) → s′ ≡ s) → kept n (imageOf s) s′ ≡ imageOf s′
+unfolding kept
+kept-image zero s s′ h = refl
+kept-image (suc n) s s′ h = ap imageOf (sym (h (λ e. omega arith)))
+
+-- what is seen of a call on a session, over its image
+abbrev shown : sessions.Seen → Seen
+shown w = seen (w .answer .number) (imageOf (w .answer .session)) (w .out)
+
+module _ (s : Session) (e : Held s) where
+  over-image : (o : List ℕ) (call : Session → sessions.Seen) → ((call s .answer .number ≡ 0 → ⊥) → call s .answer .session ≡ s)
+      → whole (eqb (length (imageOf s)) imageLength) (imageOf s) o (call (sessionOf (imageOf s))) ≡ shown (call s)
+  unfolding whole
+  over-image o call k =
+      rw (eq-eqb (length (imageOf s)) imageLength (length-image s), session-image s e, kept-image (call s .answer .number) s (call s .answer .session) k)
+
+  call-image : (c : Call) → callsImage (imageOf s) c ≡ shown (answered desk s c)
+  unfolding callsImage answered wrapsImage unwrapsImage
+  call-image (wrapping h b o) = over-image o (λ r. wraps desk r h b o) (λ d. wrap-kept desk s h b o d .session)
+  call-image (unwrapping h c t o) = over-image o (λ r. unwraps desk r h c t o) (λ d. unwrap-kept desk s h c t o d .session)
+
+pair-is : (s : Session) (c : Call) → pairWith (s .tag) c (answered desk s c .out) ≡ pairOf desk s c
+unfolding pairWith answered pairOf
+pair-is s (wrapping h b o) = refl
+pair-is s (unwrapping h c t o) = refl
+
+-- ---- a run
+
+record Run (s : Session) (cs : List Call) : Type 0 where
+  held : Held (after desk s cs)
+  image : imageAfter (imageOf s) cs ≡ imageOf (after desk s cs)
+  pairs : acceptedImage (imageOf s) cs ≡ accepted desk s cs
+
+run : (s : Session) → Held s → (cs : List Call) → AllHanded cs → Run s cs
+unfolding after accepted imageAfter acceptedImage AllHanded
+run s e [] h = record { held = e; image = refl; pairs = refl }
+run s e (c ∷ cs) h =
+    let i = run (answered desk s c .answer .session) (call-held s e c (h .0)) cs (h .1) in
+    record {
+      held = i .held;
+      image = rw (call-image s e c) (i .image);
+      pairs = rw (call-image s e c, session-image s e, pair-is s c, i .pairs);
+    }
+
+-- ---- from an open
+
+module _ (key : List ℕ) (R t : ℕ) where
+  -- where calls lead to from an open over the image i, and the pairs that are accepted on the way
+  abbrev pub reached : List ℕ → List Call → List ℕ
+  reached i cs = imageAfter (opensImage key R t i .image) cs
+
+  abbrev pub passed : List ℕ → List Call → List Pair
+  passed i cs = acceptedImage (opensImage key R t i .image) cs
+
+  abbrev begun : Session
+  begun = opens desk key R t .session
+
+  module _ (k : OfBytes key) where
+    module _ (i : List ℕ) (e : opensImage key R t i .number ≡ 0) where
+      opened : (opens desk key R t .number ≡ 0) × (opensImage key R t i .image ≡ imageOf begun)
+      unfolding opensImage whole
+      opened =
+          let q = was-whole (eqb (length i) imageLength) i [] (sessions.seen (opens desk key R t) []) e in
+          let n = rw q at e in
+          (n, rw q (sym (kept-accepted (opens desk key R t .number) i (imageOf begun) begun n refl)))
+
+      module _ (cs : List Call) (h : AllHanded cs) where
+        ran : Run begun cs
+        ran = run begun (open-held key R t k (opened .0)) cs h
+
+        -- After any mixture of calls from an accepted open, refused ones too, the image is that of the session after them.
+        pub image-after : reached i cs ≡ imageOf (after desk begun cs)
+        image-after = rw (opened .1) (ran .image)
+
+        same-pairs : passed i cs ≡ accepted desk begun cs
+        same-pairs = rw (opened .1) (ran .pairs)
+
+        -- Demand 3 over images: count, lanes and outputs are read off the history of the pairs that were accepted.
+        pub image-tells : Told desk R t key (passed i cs) (sessionOf (reached i cs))
+        image-tells = rw (image-after, same-pairs, session-image (after desk begun cs) (ran .held)) (history-tells desk key R t cs (opened .0))
+
+    module _ (i i′ : List ℕ) (e : opensImage key R t i .number ≡ 0) (e′ : opensImage key R t i′ .number ≡ 0) (cs ds : List Call) (u : AllHanded cs) (v : AllHanded ds)
+        (m : map content (passed i cs) ≡ map content (passed i′ ds)) where
+      -- Two runs from opens by one key and settings in which the same headers and bodies were accepted in the same order leave the same image.
+      pub same-image : reached i cs ≡ reached i′ ds
+      same-image =
+          image-after i e cs u
+          ∙ ap imageOf (same-history desk key R t (opened i e .0) cs ds (rw (same-pairs i e cs u, same-pairs i′ e′ ds v) at m))
+          ∙ sym (image-after i′ e′ ds v)
+
+      -- Demand 2 over images: what is then wrapped over the one comes back exactly over the other, and both are the same image again.
+      pub image-comes-back : (h b o o′ : List ℕ) → wrapsImage (reached i cs) h b o .number ≡ 0 → length b ≤ length o′
+          → unwrapsImage (reached i′ ds) h (take (length b) (wrapsImage (reached i cs) h b o .out)) (take t (drop (length b) (wrapsImage (reached i cs) h b o .out))) o′
+          ≡ seen 0 (wrapsImage (reached i cs) h b o .image) (b ++ drop (length b) o′)
+      image-comes-back h b o o′ z l =
+          let q = wrap-unwrap (reached i cs) h b o o′ z l in
+          rw (← same-image) (rw (image-tells i e cs u .tag) at q)
