@@ -1,2 +1,4 @@
 pub mod Examples
+pub mod Inputs
+pub mod Values
 pub mod Duds
