@@ -58,19 +58,21 @@ module _ {M : Type 1} {𝓤 : URA M} {H : Heap 𝓤} {A : Atoms 𝓤} {K : Type 
   pub calls : {Γ : List (Item 𝓤)} {C : Calls 𝓤 H} {Λ : Loops 𝓤 H} {E : Env 𝓤 H} {f : Name} {xs : List Operand} {d : Place} {rest : Body} {q : Post 𝓤 H}
       → K → FmC 𝓤 H (W .laws) C → (T : Ended) (c : Clauses 𝓤 T) → Triple 𝓤 (C f) (Meant 𝓤 H A T c) → (y : Meant 𝓤 H A T c .Ghost) → ent 𝓤 (emp 𝓤) (c (y .0 .0) (y .0 .3) .requires (y .1))
       → (vals : Row 𝓤 H A T c y .Denot → List Val) → Tells (Row 𝓤 H A T c y) (Is (Row 𝓤 H A T c y)) vals → Opds K W (raw (Meant 𝓤 H A T c .pre y) ∷ Γ) E xs (Meant 𝓤 H A T c .args y)
-      → ((r : Row 𝓤 H A T c y .Denot) (ws : Lasts T (y .0 .0) (y .0 .3)) → Is (Row 𝓤 H A T c y) r (vals r) → Seq K W (tokens 𝓤 H A T c y ∷ left 𝓤 H A T c y ws ∷ told 𝓤 H A T c y r ws ∷ Γ) (lands C Λ E d (only (vals r)) rest q))
+      → ((r : Row 𝓤 H A T c y .Denot) (ws : Lasts T (y .0 .0) (y .0 .3)) → Is (Row 𝓤 H A T c y) r (vals r) → Seq K W (told 𝓤 H A T c y r ws ∷ tokens 𝓤 H A T c y ∷ left 𝓤 H A T c y ws ∷ Γ) (lands C Λ E d (only (vals r)) rest q))
       → Seq K W (tokens 𝓤 H A T c y ∷ given 𝓤 H A T c y ∷ Γ) (runs C Λ E (seq (call f xs d) rest) q)
   calls {C = C} {Λ} {E} {d = d} {rest} {q} t fm T c met y asks vals tells os k =
       join t $ use0 W (raw (c (y .0 .0) (y .0 .3) .requires (y .1))) asks $ move t (1 ∷ 0 ∷ []) $ use2 W (raw (Meant 𝓤 H A T c .pre y)) (id⊢ 𝓤 _) $ calls-at t fm (Meant 𝓤 H A T c) met y os (λ v.
       use1 W (later (some (λ (r : Row 𝓤 H A T c y .Denot). (tokens 𝓤 H A T c y ⊛ ‵ (Row 𝓤 H A T c y .own r (v ∷ []))) ⊛ some (λ (ws : Lasts T (y .0 .0) (y .0 .3)). left 𝓤 H A T c y ws ⊛ told 𝓤 H A T c y r ws)))) (id⊢ 𝓤 _) $
-      await t tt $ pick t (λ r. split t $ split t $ move t (2 ∷ []) $ pick t (λ ws. split t $ move t (3 ∷ 2 ∷ []) $ peeks t (Row 𝓤 H A T c y) (Is (Row 𝓤 H A T c y)) (shows 𝓤 H A (Row 𝓤 H A T c y)) r (v ∷ []) (λ is.
+      await t tt $ pick t (λ r. split t $ split t $ move t (2 ∷ []) $ pick t (λ ws. split t $ move t (3 ∷ 1 ∷ 2 ∷ []) $ peeks t (Row 𝓤 H A T c y) (Is (Row 𝓤 H A T c y)) (shows 𝓤 H A (Row 𝓤 H A T c y)) r (v ∷ []) (λ is.
       drop t $ regoal t (λ (us : List Val). lands C Λ E d (only us) rest q) (tells r (v ∷ []) is) refl $ k r ws (subst (Is (Row 𝓤 H A T c y) r) (tells r (v ∷ []) is) is)))))
 
   -- the end of a walk, at a result r and last values ws
-  pub ends : K → (T : Ended) (c : Clauses 𝓤 T) (y : Meant 𝓤 H A T c .Ghost) (v : Val) (r : Row 𝓤 H A T c y .Denot) (ws : Lasts T (y .0 .0) (y .0 .3)) → ent 𝓤 (emp 𝓤) (sem 𝓤 H A (Row 𝓤 H A T c y .own r (v ∷ [])))
-      → Seq K W (tokens 𝓤 H A T c y ∷ left 𝓤 H A T c y ws ∷ told 𝓤 H A T c y r ws ∷ []) (prop (Meant 𝓤 H A T c .post y v))
-  ends t T c y v r ws is = updating t $ at-once t $ show t (λ (r′ : Row 𝓤 H A T c y .Denot). sep 𝓤 (Back 𝓤 H A (T .signature) (y .0) v r′) (ensured 𝓤 H A T c (y .0 .0) (y .0 .3) (y .1) r′)) r $
-      use0 W (‵ (Row 𝓤 H A T c y .own r (v ∷ []))) is $ move t (1 ∷ 0 ∷ []) $ join t $ frame t $ show t (λ (zs : Lasts T (y .0 .0) (y .0 .3)). mean 𝓤 H A (left 𝓤 H A T c y zs ⊛ told 𝓤 H A T c y r zs)) ws $ done t
+  pub ends : K → (T : Ended) (c : Clauses 𝓤 T) (y : Meant 𝓤 H A T c .Ghost) (v : Val) (r : Row 𝓤 H A T c y .Denot) (ws : Lasts T (y .0 .0) (y .0 .3))
+      → ent 𝓤 (emp 𝓤) (sem 𝓤 H A (Row 𝓤 H A T c y .own r (v ∷ []))) → ent 𝓤 (emp 𝓤) (mean 𝓤 H A (told 𝓤 H A T c y r ws))
+      → Seq K W (tokens 𝓤 H A T c y ∷ left 𝓤 H A T c y ws ∷ []) (prop (Meant 𝓤 H A T c .post y v))
+  ends t T c y v r ws owned says = updating t $ at-once t $ show t (λ (r′ : Row 𝓤 H A T c y .Denot). sep 𝓤 (Back 𝓤 H A (T .signature) (y .0) v r′) (ensured 𝓤 H A T c (y .0 .0) (y .0 .3) (y .1) r′)) r $
+      use0 W (‵ (Row 𝓤 H A T c y .own r (v ∷ []))) owned $ move t (1 ∷ 0 ∷ []) $ join t $ frame t $ use0 W (told 𝓤 H A T c y r ws) says $
+      show t (λ (zs : Lasts T (y .0 .0) (y .0 .3)). mean 𝓤 H A (left 𝓤 H A T c y zs ⊛ told 𝓤 H A T c y r zs)) ws $ move t (1 ∷ 0 ∷ []) $ done t
 
 -- a function whose code is walked meets its contract: e is the code of the name k, and the names in it mean γ
 module _ {M : Type 1} (𝓤 : URA M) (H : Heap 𝓤) (𝓜 : Model 𝓤 H) (𝓖 : GhostRules 𝓤 H) (𝓡 : Running 𝓤 H 𝓜) (γ : Names) where
