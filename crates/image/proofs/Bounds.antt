@@ -20,7 +20,7 @@ use Rattle.sponge.proofs.Lanes.{low-digit}
 use Rattle.sponge.proofs.Pieces.{absorb-append}
 use Rattle.duplex.specs.Duplex.{framed, after}
 use Rattle.duplex.specs.Strings.{blocks, front, cut, xored, absorbed, unmasked, opened}
-use Rattle.duplex.proofs.Draw.{blanks-absorb}
+use Rattle.duplex.proofs.Draw.{after-blocks}
 
 -- ---- lists of numbers below m
 
@@ -148,5 +148,5 @@ module _ {w : ℕ} {f : List ℕ → List ℕ} (k : Keeps w f) where
 
     -- and that a tag of n bytes leaves
     pub after-state : (a : List ℕ) (n : ℕ) → State w a → State w (after w f R a n)
-    unfolding after
-    after-state a n s = rw (blanks-absorb w f R a (before (R - 1) n)) (leave-blanks (before (R - 1) n) a s)
+    unfolding absorb
+    after-state a n s = rw (after-blocks w f R a [] n) (leave-blanks (before (R - 1) n) a s)

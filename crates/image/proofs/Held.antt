@@ -9,16 +9,17 @@ use Rattle.keccak.specs.Rounds.{f1600}
 use Rattle.keccak.proofs.States.{rounds-state}
 use Rattle.sponge.specs.Pieces.{before}
 use Rattle.duplex.specs.Strings.{blocks}
+use Rattle.refusal.proofs.Rows.{made}
 use Rattle.spongewrap.specs.SpongeWrap.{keyed, headed, bodied, left, plaintext}
-use Rattle.spongewrap.specs.Refusals.{openRefusal}
+use Rattle.spongewrap.specs.Refusals.{openRefusal, Fits}
 use Rattle.spongewrap.specs.Desk.{desk}
-use Rattle.spongewrap.specs.Sessions.{Seen, opened as open-settled, opens, cost, advanced, next, recovered}
+use Rattle.spongewrap.specs.Sessions.{Seen, none, fresh, opens, cost, advanced, next, recovered}
 use Rattle.spongewrap.specs.History.{Call, answered}
 use Rattle.spongewrap.specs.History.Call.{wrapping, unwrapping}
 use Rattle.spongewrap.specs.declared.Session.{Session}
-use Rattle.spongewrap.proofs.Passed.{Fits, open-fits, wrap-fits, unwrap-fits}
+use Rattle.spongewrap.proofs.Passed.{open-fits, wrap-fits, unwrap-fits}
 use Rattle.spongewrap.proofs.Settle.{length-recovered}
-use Rattle.spongewrap.proofs.Theorems.{open-number, wrap-number, wrap-kept, unwrap-kept, wrapped-is, unwrapped-is, accepted-ready}
+use Rattle.spongewrap.proofs.Theorems.{wrap-number, wrap-kept, unwrap-kept, wrapped-is, unwrapped-is, accepted-ready}
 use Rattle.image.specs.Runs.{OfBytes, Handed}
 use Rattle.image.proofs.Bounds.{Keeps, absorbed-state, after-state, zeros-state, opened-bytes}
 use Rattle.image.proofs.Image.{Within, Held}
@@ -33,17 +34,14 @@ blocks-most R n = omega (arith, div-le-self (n - 1) (R - 1))
 -- ---- an accepted open
 
 pub open-held : (key : List ℕ) (R t : ℕ) → OfBytes key → opens desk key R t .number ≡ 0 → Held (opens desk key R t .session)
-unfolding opens open-settled keyed Within
-open-held key R t h e = go (openRefusal desk (length key) R t) e
-  where
-    go : (n : ℕ) → open-settled desk n R t key .number ≡ 0 → Held (open-settled desk n R t key .session)
-    go zero d =
-        let o = open-fits desk (length key) R t (sym (open-number desk key R t) ∙ e) in
-        record {
-          lanes = absorbed-state f1600-keeps R 1 0 (omega arith) (omega arith) key h _ (zeros-state 64);
-          fields = (omega arith, (omega arith, (omega arith, (omega (arith, blocks-most R (length key)), tt))));
-        }
-    go (suc n) d = absurd (omega arith)
+unfolding opens keyed Within
+open-held key R t h e =
+    let o = open-fits desk (length key) R t e in
+    rw (made (openRefusal desk (length key) R t) none (fresh desk R t key) e)
+    (record {
+      lanes = absorbed-state f1600-keeps R 1 0 (omega arith) (omega arith) key h _ (zeros-state 64);
+      fields = (omega arith, (omega arith, (omega arith, (omega (arith, blocks-most R (length key)), tt))));
+    })
 
 -- ---- a call, accepted or refused
 

@@ -2,7 +2,8 @@
 use Prim.Native.Nat.{ℕ, _<_}
 use mathlib.Core.List.{List, [], _∷_, _++_}
 use lib.ListN.{length, getD, take, drop}
-use Rattle.spongewrap.specs.History.{Call, Pair, ifAccepted}
+use Rattle.refusal.specs.Rows.{by}
+use Rattle.spongewrap.specs.History.{Call, Pair}
 use Rattle.spongewrap.specs.History.Call.{wrapping, unwrapping}
 use Rattle.image.specs.Image.{sessionOf}
 use Rattle.image.specs.Calls.{Seen, wrapsImage, unwrapsImage}
@@ -25,7 +26,7 @@ pairWith t (unwrapping h c u o) x = record { header = h; body = take (length c) 
 unfoldable pub acceptedImage : List ℕ → List Call → List Pair
 acceptedImage i [] = []
 acceptedImage i (c ∷ cs) =
-    ifAccepted (callsImage i c .number) (pairWith (sessionOf i .tag) c (callsImage i c .out)) ++ acceptedImage (callsImage i c .image) cs
+    by (callsImage i c .number) [] (pairWith (sessionOf i .tag) c (callsImage i c .out) ∷ []) ++ acceptedImage (callsImage i c .image) cs
 
 -- ---- that calls are handed bytes, and not just any numbers
 
