@@ -1,11 +1,11 @@
 -- Functions that no contract lets through (document 01, "How much each contract must say"): one input, or two, shut each dud out.
 -- A dud is of the code's own type: what it is handed, and what is said of it, are inputs that the code can be handed.
-use Prim.Native.Nat.{ℕ, _^_, _<_}
+use Prim.Native.Nat.{ℕ, _<_}
 use native.Mathlib.Omega.{arith}
 use mathlib.Core.Path.{_≡_, refl, sym, ap, _∙_}
 use mathlib.Core.List.{List, [], _∷_}
 use lib.Dec.{lit<}
-use lib.ListN.{length, getD, take, drop, replicate}
+use lib.ListN.{length, getD, take, drop}
 use Rattle.keccak.specs.Rounds.{f1600}
 use Rattle.sponge.specs.Pieces.{before}
 use Rattle.sponge.specs.Sponge.{iterate}
@@ -21,17 +21,10 @@ use Rattle.spongewrap.specs.declared.Answer.{Answer}
 use Rattle.spongewrap.proofs.Theorems.{wrap-number, unwrap-number, wrapped-is, unwrapped-is, unwrap-accepts-exactly, wrong-tag-releases-nothing, text-is, mark-is}
 use Rattle.spongewrap.proofs.Passed.{unwrap-fits}
 use Rattle.spongewrap.proofs.Settle.{length-tagOf}
-use Rattle.examples.proofs.Inputs.{Bytes, Opening, Wrapping, Unwrapping, blanks, single, wrapping-under, unwrapping-under, plain, plain-held}
+use Rattle.examples.proofs.Inputs.{Bytes, Opening, Wrapping, Unwrapping, wrapping-under, unwrapping-under, blanks, single, plain, good, bad, room, wrapping-zeros, empty, wrapping-byte, unwrapping}
 use Rattle.examples.proofs.Values.{after-header, after-body, after-pair, no-header, no-body, next-state, first-byte, first-opened, no-cipher, due, due-bytes, tag-zero, tag-one}
 
 -- ---- open
-
--- one that is accepted, and one that is refused
-good : Opening
-good = record { key = replicate 16 0; rate = 136; tag = 16; fits = (blanks 16 (lit< tt), lit< tt, lit< tt) }
-
-bad : Opening
-bad = record { key = []; rate = 0; tag = 0; fits = (blanks 0 (lit< tt), lit< tt, lit< tt) }
 
 module _ (g : Opening → Answer) (meets : (i : Opening) → g i ≡ opens desk (i .key) (i .rate) (i .tag)) where
   opens-well : g good .number ≡ 0
@@ -51,23 +44,13 @@ module _ (g : Opening → Answer) (meets : (i : Opening) → g i ≡ opens desk 
 
 -- ---- wrap
 
--- an output with room
-room : List ℕ
-room = replicate 256 0
+-- no row of the table refuses it
+abbrev Taken : Wrapping → Type 0
+Taken i = wrapRefusal desk (i .session) (length (i .header)) (length (i .body)) (length (i .out)) ≡ 0
 
-room-bytes : Bytes room
-unfolding room
-room-bytes = blanks 256 (lit< tt)
-
--- n zeros under an empty header, at the rate R
-wrapping-zeros : (R n : ℕ) → R < 2 ^ 16 → n < 2 ^ 64 → Wrapping
-wrapping-zeros R n p q =
-    record { session = plain 0 R; header = []; body = replicate n 0; out = room; fits = (plain-held 0 R (lit< tt) p, blanks 0 (lit< tt), blanks n q, room-bytes) }
-
--- an empty body under a header of one byte
-wrapping-byte : Wrapping
-wrapping-byte =
-    record { session = plain 0x303 136; header = 0 ∷ []; body = []; out = room; fits = (plain-held 0x303 136 (lit< tt) (lit< tt), single 0 (lit< tt), blanks 0 (lit< tt), room-bytes) }
+empty-taken : Taken empty
+unfolding empty wrapping-zeros plain room wrapRefusal pick
+empty-taken = refl
 
 -- the ciphertext and the tag that a wrap left in its output o
 abbrev pub text : Wrapping → List ℕ → List ℕ
@@ -77,8 +60,7 @@ abbrev pub mark : Wrapping → List ℕ → List ℕ
 mark i o = take (i .session .tag) (drop (length (i .body)) o)
 
 module _ (g : Wrapping → Seen) (meets : (i : Wrapping) → g i ≡ wraps desk (i .session) (i .header) (i .body) (i .out)) where
-  -- one that is accepted
-  module _ (i : Wrapping) (e : wrapRefusal desk (i .session) (length (i .header)) (length (i .body)) (length (i .out)) ≡ 0) where
+  module _ (i : Wrapping) (e : Taken i) where
     wraps-well : wraps desk (i .session) (i .header) (i .body) (i .out) .answer .number ≡ 0
     wraps-well = wrap-number desk (i .session) (i .header) (i .body) (i .out) ∙ e
 
@@ -94,32 +76,26 @@ module _ (g : Wrapping → Seen) (meets : (i : Wrapping) → g i ≡ wraps desk 
     mark-due : mark i (g i .out) ≡ tagOf desk (i .session) (i .header) (i .body)
     mark-due = rw meets (mark-is desk (i .session) (i .header) (i .body) (i .out) wraps-well)
 
-  -- an empty body under an empty header
-  empty : Wrapping
-  empty = wrapping-zeros 136 0 (lit< tt) (lit< tt)
-
-  empty-fits : wrapRefusal desk (plain 0 136) 0 0 (length room) ≡ 0
-  unfolding plain room wrapRefusal pick
-  empty-fits = refl
+  empty-well : g empty .answer .number ≡ 0
+  empty-well = well empty empty-taken
 
   -- A wrap that refuses everything.
   pub wrap-refuses-all : ((i : Wrapping) → g i .answer .number ≡ 0 → ⊥) → ⊥
-  unfolding empty wrapping-zeros
-  wrap-refuses-all d = d empty (well empty empty-fits)
+  wrap-refuses-all d = d empty empty-well
 
   -- A wrap with a fixed number.
   pub wrap-fixed : (v : ℕ) → ((i : Wrapping) → g i .answer .number ≡ v) → ⊥
   unfolding empty wrapping-zeros plain wrapRefusal pick
   wrap-fixed v d =
       let i = wrapping-zeros 0 0 (lit< tt) (lit< tt) in
-      let z : _≡_ {A = ℕ} 0 1 = sym (well empty empty-fits) ∙ d empty ∙ sym (d i) ∙ rw meets (wrap-number desk (plain 0 0) [] [] room) in
+      let z : _≡_ {A = ℕ} 0 1 = sym empty-well ∙ d empty ∙ sym (d i) ∙ rw meets (wrap-number desk (plain 0 0) [] [] room) in
       omega arith
 
   -- A wrap that does nothing: it gives back the session that it took.
   pub wrap-does-nothing : ((i : Wrapping) → g i .answer .number ≡ 0 → g i .answer .session ≡ i .session) → ⊥
   unfolding empty wrapping-zeros plain next advanced
   wrap-does-nothing d =
-      let z : _≡_ {A = ℕ} 2 1 = ap (λ (s : Session). s .pairs) (sym (session empty empty-fits) ∙ d empty (well empty empty-fits)) in
+      let z : _≡_ {A = ℕ} 2 1 = ap (λ (s : Session). s .pairs) (sym (session empty empty-taken) ∙ d empty empty-well) in
       omega arith
 
   -- A wrap that copies the body to the ciphertext.
@@ -130,16 +106,16 @@ module _ (g : Wrapping → Seen) (meets : (i : Wrapping) → g i ≡ wraps desk 
       let z : _≡_ {A = ℕ} 0x1f 0 = sym first-byte ∙ ap (λ (l : List ℕ). getD l 0 0) (sym (text-sealed i refl) ∙ d i (well i refl)) in
       omega arith
 
-  -- the lanes after the empty body under the empty header
+  -- the lanes that it leaves
   lanes-are : (l : List ℕ) → g empty .answer .session .lanes ≡ l → after-pair ≡ l
   unfolding empty wrapping-zeros
-  lanes-are l e = sym (ap (λ (s : Session). s .lanes) (session empty empty-fits) ∙ next-state) ∙ e
+  lanes-are l e = sym (ap (λ (s : Session). s .lanes) (session empty empty-taken) ∙ next-state) ∙ e
 
   -- A wrap that mixes only the first pair into the state, whatever tags it gives to later ones.
   pub wrap-mixes-first-only : ((i : Wrapping) → 0 < i .session .pairs → g i .answer .number ≡ 0 → g i .answer .session .lanes ≡ i .session .lanes) → ⊥
   unfolding empty wrapping-zeros plain after-pair
   wrap-mixes-first-only d =
-      let z : _≡_ {A = ℕ} 0xc026b87a93e8a9ee 0 = ap (λ (l : List ℕ). getD l 0 0) (lanes-are _ (d empty (lit< tt) (well empty empty-fits))) in
+      let z : _≡_ {A = ℕ} 0xc026b87a93e8a9ee 0 = ap (λ (l : List ℕ). getD l 0 0) (lanes-are _ (d empty (lit< tt) empty-well)) in
       omega arith
 
   -- A wrap that skips the duplexing of an empty header: the body goes on from the session's own lanes.
@@ -147,7 +123,7 @@ module _ (g : Wrapping → Seen) (meets : (i : Wrapping) → g i ≡ wraps desk 
       → g i .answer .session .lanes ≡ after 64 f1600 (i .session .rate) (absorbed 64 f1600 (i .session .rate) (i .session .lanes) 1 0 (i .body)) (i .session .tag)) → ⊥
   unfolding empty wrapping-zeros plain after iterate before after-pair after-body
   wrap-skips-empty-header d =
-      let z : _≡_ {A = ℕ} 0xc026b87a93e8a9ee 0xf4ef9e9955cbe5c3 = ap (λ (l : List ℕ). getD l 0 0) (lanes-are _ (d empty refl (well empty empty-fits)) ∙ no-body) in
+      let z : _≡_ {A = ℕ} 0xc026b87a93e8a9ee 0xf4ef9e9955cbe5c3 = ap (λ (l : List ℕ). getD l 0 0) (lanes-are _ (d empty refl empty-well) ∙ no-body) in
       omega arith
 
   -- A wrap that skips the duplexing of an empty body: the tag comes from the lanes that the header left.
@@ -155,7 +131,7 @@ module _ (g : Wrapping → Seen) (meets : (i : Wrapping) → g i ≡ wraps desk 
       → g i .answer .session .lanes ≡ after 64 f1600 (i .session .rate) (headed 64 f1600 (i .session .rate) (i .session .lanes) (i .header)) (i .session .tag)) → ⊥
   unfolding empty wrapping-zeros plain after iterate before after-pair after-header
   wrap-skips-empty-body d =
-      let z : _≡_ {A = ℕ} 0xc026b87a93e8a9ee 0x4aff58b51d129e1f = ap (λ (l : List ℕ). getD l 0 0) (lanes-are _ (d empty refl (well empty empty-fits)) ∙ no-header) in
+      let z : _≡_ {A = ℕ} 0xc026b87a93e8a9ee 0x4aff58b51d129e1f = ap (λ (l : List ℕ). getD l 0 0) (lanes-are _ (d empty refl empty-well) ∙ no-header) in
       omega arith
 
   -- A wrap with an invented count: one that does not go by what is wrapped.
@@ -163,13 +139,12 @@ module _ (g : Wrapping → Seen) (meets : (i : Wrapping) → g i ≡ wraps desk 
   unfolding empty wrapping-zeros plain room wrapRefusal pick next advanced cost blocks before
   wrap-invents-count count d =
       let i = wrapping-zeros 136 136 (lit< tt) (lit< tt) in
-      let n : (i : Wrapping) (e : wrapRefusal desk (i .session) (length (i .header)) (length (i .body)) (length (i .out)) ≡ 0)
-      → next desk (i .session) (i .header) (i .body) .calls ≡ count (i .session) =
+      let n : (i : Wrapping) → Taken i → next desk (i .session) (i .header) (i .body) .calls ≡ count (i .session) =
       λ i e. sym (ap (λ (s : Session). s .calls) (session i e)) ∙ d i (well i e) in
-      let z : _≡_ {A = ℕ} 3 4 = n empty refl ∙ sym (n i refl) in
+      let z : _≡_ {A = ℕ} 3 4 = n empty empty-taken ∙ sym (n i refl) in
       omega arith
 
-  -- A wrap whose tag leaves the header out: under headers of one length, the same ciphertext has the same tag.
+  -- A wrap whose tag leaves the header out: it is the same under any header of that length that leaves the ciphertext as it is.
   pub wrap-leaves-header-out : ((i : Wrapping) (h : List ℕ) (p : Bytes h) → length h ≡ length (i .header)
       → g i .answer .number ≡ 0 → g (wrapping-under h p i) .answer .number ≡ 0 → text i (g i .out) ≡ text i (g (wrapping-under h p i) .out)
       → mark i (g i .out) ≡ mark i (g (wrapping-under h p i) .out)) → ⊥
@@ -183,11 +158,6 @@ module _ (g : Wrapping → Seen) (meets : (i : Wrapping) → g i ≡ wraps desk 
       omega arith
 
 -- ---- unwrap
-
--- a ciphertext and a tag under the header 0, at the rate R
-unwrapping : (R : ℕ) (c t : List ℕ) → R < 2 ^ 16 → Bytes c → Bytes t → Unwrapping
-unwrapping R c t p q r =
-    record { session = plain 0x303 R; header = 0 ∷ []; cipher = c; tag = t; out = c; fits = (plain-held 0x303 R (lit< tt) p, single 0 (lit< tt), q, r, q) }
 
 -- the tag of an empty body
 unwrapping-due : Unwrapping
@@ -237,7 +207,7 @@ module _ (g : Unwrapping → Seen) (meets : (i : Unwrapping) → g i ≡ unwraps
       ap (λ (l : List ℕ). getD l 0 0) (sym (ap (λ (v : Seen). take 1 (v .out)) n) ∙ d i (ap (λ (v : Seen). v .answer .number) n)) ∙ first-opened in
       omega arith
 
-  -- An unwrap that opens under another member's header: what is accepted under one is accepted under any of its length.
+  -- An unwrap that opens under another member's header: what is accepted under one is accepted under any of that length.
   pub unwrap-opens-under-other : ((i : Unwrapping) (h : List ℕ) (p : Bytes h) → length h ≡ length (i .header)
       → g i .answer .number ≡ 0 → g (unwrapping-under h p i) .answer .number ≡ 0) → ⊥
   unfolding unwrapping-due unwrapping plain pick due

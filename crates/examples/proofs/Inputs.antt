@@ -2,7 +2,7 @@
 -- inputs, so that no number past them shuts one out.
 use Prim.Native.Nat.{ℕ, zero, suc, _^_, _<_}
 use native.Mathlib.Omega.{arith}
-use mathlib.Core.Path.{_≡_, refl}
+use mathlib.Core.Path.{_≡_}
 use mathlib.Core.List.{List, [], _∷_}
 use lib.Dec.{lit<}
 use lib.ListN.{length, replicate, length-replicate}
@@ -71,7 +71,7 @@ blanks n p = record { short = rw (length-replicate {A = ℕ} n 0) p; each = belo
 
 -- one byte
 pub single : (x : ℕ) → x < 256 → Bytes (x ∷ [])
-single x p = record { short = lit< tt; each = (p, tt) }
+single x p = omega arith
 
 -- a session with the rate R and one pair: its first lane is x, the others are 0
 unfoldable pub plain : ℕ → ℕ → Session
@@ -79,12 +79,38 @@ plain x R = record { lanes = x ∷ replicate 24 0; rate = R; tag = 16; pairs = 1
 
 pub plain-held : (x R : ℕ) → x < 2 ^ 64 → R < 2 ^ 16 → Held (plain x R)
 unfolding plain
-plain-held x R p q =
-    record {
-      lanes = refl;
-      each = (p, below-zeros (2 ^ 64) 24 (lit< tt));
-      rate = q;
-      tag = lit< tt;
-      pairs = lit< tt;
-      calls = lit< tt;
-    }
+plain-held x R p q = omega arith
+
+-- an open that is accepted, and one that is refused
+unfoldable pub good : Opening
+good = record { key = replicate 16 0; rate = 136; tag = 16; fits = (blanks 16 (lit< tt), lit< tt, lit< tt) }
+
+unfoldable pub bad : Opening
+bad = record { key = []; rate = 0; tag = 0; fits = (blanks 0 (lit< tt), lit< tt, lit< tt) }
+
+-- an output with room for any of these
+unfoldable pub room : List ℕ
+room = replicate 256 0
+
+pub room-bytes : Bytes room
+unfolding room
+room-bytes = blanks 256 (lit< tt)
+
+-- a wrap of n zeros under an empty header, at the rate R
+unfoldable pub wrapping-zeros : (R n : ℕ) → R < 2 ^ 16 → n < 2 ^ 64 → Wrapping
+wrapping-zeros R n p q =
+    record { session = plain 0 R; header = []; body = replicate n 0; out = room; fits = (plain-held 0 R (lit< tt) p, blanks 0 (lit< tt), blanks n q, room-bytes) }
+
+-- of an empty body under an empty header
+unfoldable pub empty : Wrapping
+empty = wrapping-zeros 136 0 (lit< tt) (lit< tt)
+
+-- and under the header 0
+unfoldable pub wrapping-byte : Wrapping
+wrapping-byte =
+    record { session = plain 0x303 136; header = 0 ∷ []; body = []; out = room; fits = (plain-held 0x303 136 (lit< tt) (lit< tt), single 0 (lit< tt), blanks 0 (lit< tt), room-bytes) }
+
+-- an unwrap under the header 0, at the rate R
+unfoldable pub unwrapping : (R : ℕ) (c t : List ℕ) → R < 2 ^ 16 → Bytes c → Bytes t → Unwrapping
+unwrapping R c t p q r =
+    record { session = plain 0x303 R; header = 0 ∷ []; cipher = c; tag = t; out = c; fits = (plain-held 0x303 R (lit< tt) p, single 0 (lit< tt), q, r, q) }

@@ -1,10 +1,9 @@
--- The permutation's own values that tell the duds from the contract, computed from the definitions. Both sessions below start where a first block
--- leaves one of two states, so that four permutations are enough.
+-- The permutation's own values that tell the duds from the contract, computed from the definitions. Every first block below leads to one of
+-- the same two states, so that four permutations are enough.
 use Prim.Native.Nat.{ℕ, _^_}
 use native.Mathlib.Omega.{arith}
 use mathlib.Core.Path.{_≡_, refl, ap, _∙_}
 use mathlib.Core.List.{List, [], _∷_, _++_}
-use lib.Dec.{lit<}
 use lib.ListN.{getD, take, replicate}
 use Rattle.keccak.specs.Rounds.{round, rounds, f1600}
 use Rattle.sponge.specs.Table.{table}
@@ -21,9 +20,9 @@ use Rattle.examples.proofs.Inputs.{Bytes, plain}
 
 -- ---- the permutations
 
--- a state before its first permutation: the first lane is x, and the padding's last bit is set
-start : ℕ → List ℕ
-start x = x ∷ replicate 15 0 ++ (2 ^ 63 ∷ replicate 8 0)
+-- what a first block makes of the state before it is permuted: the first lane is x, and the padding's last bit is set
+loaded : ℕ → List ℕ
+loaded x = x ∷ replicate 15 0 ++ (2 ^ 63 ∷ replicate 8 0)
 
 -- the state of zeros after the block of an empty header
 unfoldable pub after-header : List ℕ
@@ -34,9 +33,9 @@ after-header =
     ∷ 0x500a0ea5d191c0c ∷ 0x2c8e1e36d1fe7189 ∷ 0x14038b9b4c82e84 ∷ 0x2dd70da92496379 ∷ 0xf5fd9b3bdaf700f6
     ∷ 0xb8676c43a0a5f3d4 ∷ 0x57eb2c5e3e28c9ca ∷ 0x65946b420b1ab1ec ∷ 0xf61914edf0483f0a ∷ 0x6874f8331879c99a ∷ []
 
-header-start : f1600 (start 3) ≡ after-header
-unfolding start after-header rounds round
-header-start = refl
+permuted-three : f1600 (loaded 3) ≡ after-header
+unfolding loaded after-header rounds round
+permuted-three = refl
 
 -- and after the block of an empty body
 unfoldable pub after-body : List ℕ
@@ -47,11 +46,11 @@ after-body =
     ∷ 0xc92c1688e73885dc ∷ 0x338ec334ea6590fb ∷ 0x5d07f8b9f4ea7af7 ∷ 0x107148205aec8ff2 ∷ 0xced088189a76fa43
     ∷ 0xbb56ef1103d2ad7d ∷ 0x8f5e5a5a2746c45d ∷ 0x349a4d59e81316ff ∷ 0x8c1e3412e701fdc5 ∷ 0xdd4c08f91571df54 ∷ []
 
-body-start : f1600 (start 2) ≡ after-body
-unfolding start after-body rounds round
-body-start = refl
+permuted-two : f1600 (loaded 2) ≡ after-body
+unfolding loaded after-body rounds round
+permuted-two = refl
 
--- and after both, one pair
+-- and after both, an empty pair
 unfoldable pub after-pair : List ℕ
 after-pair =
     0xc026b87a93e8a9ee ∷ 0xc640f3a0d18563ce ∷ 0x63693cc384dc8738 ∷ 0x180e9a3265a7bad8 ∷ 0x47968183ca41bc1b
@@ -64,28 +63,30 @@ pair-state : absorbed 64 f1600 136 after-header 1 0 [] ≡ after-pair
 unfolding absorbed cut front framed blocksOf piece before padded tail absorb absorbBlock mixed laneOf table after-header after-pair rounds round
 pair-state = refl
 
--- the first lane after two empty bodies
-second-lane : getD (absorbed 64 f1600 136 after-body 1 0 []) 0 0 ≡ 0xb7473e99ead50edf
+-- the first lane after one more empty body
+more-lane : getD (absorbed 64 f1600 136 after-body 1 0 []) 0 0 ≡ 0xb7473e99ead50edf
 unfolding absorbed cut front framed blocksOf piece before padded tail absorb absorbBlock mixed laneOf table after-body rounds round
-second-lane = refl
+more-lane = refl
 
--- ---- the states of the two sessions: `plain 0`, and `plain 0x303`, whose first lane a header of one byte turns to that byte and its frame
+-- ---- the states of two sessions
 
+-- A header of one byte has its frame, 3, in its block's second byte. So in `plain 0x303` the header 0 leaves 3 of the first lane, as an empty header
+-- does in `plain 0`, and the header 1 leaves 2, as an empty body does there.
 pub no-header : headed 64 f1600 136 (plain 0 136 .lanes) [] ≡ after-header
-unfolding plain start headed absorbed cut front framed blocksOf piece before padded tail absorb absorbBlock mixed laneOf table
-no-header = header-start
+unfolding plain loaded headed absorbed cut front framed blocksOf piece before padded tail absorb absorbBlock mixed laneOf table
+no-header = permuted-three
 
 pub header-zero : headed 64 f1600 136 (plain 0x303 136 .lanes) (0 ∷ []) ≡ after-header
-unfolding plain start headed absorbed cut front framed blocksOf piece before padded tail absorb absorbBlock mixed laneOf table
-header-zero = header-start
+unfolding plain loaded headed absorbed cut front framed blocksOf piece before padded tail absorb absorbBlock mixed laneOf table
+header-zero = permuted-three
 
 pub header-one : headed 64 f1600 136 (plain 0x303 136 .lanes) (1 ∷ []) ≡ after-body
-unfolding plain start headed absorbed cut front framed blocksOf piece before padded tail absorb absorbBlock mixed laneOf table
-header-one = body-start
+unfolding plain loaded headed absorbed cut front framed blocksOf piece before padded tail absorb absorbBlock mixed laneOf table
+header-one = permuted-two
 
 pub no-body : absorbed 64 f1600 136 (plain 0 136 .lanes) 1 0 [] ≡ after-body
-unfolding plain start absorbed cut front framed blocksOf piece before padded tail absorb absorbBlock mixed laneOf table
-no-body = body-start
+unfolding plain loaded absorbed cut front framed blocksOf piece before padded tail absorb absorbBlock mixed laneOf table
+no-body = permuted-two
 
 pub next-state : next desk (plain 0 136) [] [] .lanes ≡ after-pair
 unfolding plain next advanced left after iterate before bodied
@@ -112,13 +113,13 @@ tag-from : (x : ℕ) (h a : List ℕ) → headed 64 f1600 136 (plain x 136 .lane
 unfolding plain tagOf tagged bodied drawn squeeze stream iterate before bytes table
 tag-from x h a e = rw e
 
--- `plain 0x303` under the header 0
+-- under the header 0
 unfoldable pub due : List ℕ
 due = 0xee ∷ 0xa9 ∷ 0xe8 ∷ 0x93 ∷ 0x7a ∷ 0xb8 ∷ 0x26 ∷ 0xc0 ∷ 0xce ∷ 0x63 ∷ 0x85 ∷ 0xd1 ∷ 0xa0 ∷ 0xf3 ∷ 0x40 ∷ 0xc6 ∷ []
 
 pub due-bytes : Bytes due
 unfolding due
-due-bytes = record { short = lit< tt; each = omega arith }
+due-bytes = omega arith
 
 pub tag-zero : tagOf desk (plain 0x303 136) (0 ∷ []) [] ≡ due
 unfolding due after-pair bytes byteOf table
@@ -127,4 +128,4 @@ tag-zero = tag-from 0x303 (0 ∷ []) after-header header-zero ∙ rw pair-state 
 -- and under the header 1: the first byte is another
 pub tag-one : getD (tagOf desk (plain 0x303 136) (1 ∷ []) []) 0 0 ≡ 0xdf
 unfolding bytes byteOf table
-tag-one = ap (λ (l : List ℕ). getD l 0 0) (tag-from 0x303 (1 ∷ []) after-body header-one) ∙ rw second-lane refl
+tag-one = ap (λ (l : List ℕ). getD l 0 0) (tag-from 0x303 (1 ∷ []) after-body header-one) ∙ rw more-lane refl
