@@ -38,13 +38,10 @@ module _ (v : Version) (b : List ℕ) (place : ℕ) where
     entry-past h l =
         rw (le-ltb (length b - place) 6 some, le-ltb 1048576 (bodyLength b place) h, lt-ltb (length b) (nextAt v b place) l)
 
-    pub entry-whole : (h m n : ℕ) → h ≡ headerLength b place → m ≡ bodyLength b place → n ≡ nextAt v b place → m ≤ 1048576 → n ≤ length b
-        → Whole h m n ≡ entryAt v b place
-    unfolding entryAt pick
-    entry-whole h m n eh em en l x =
-        let y : bodyLength b place ≤ 1048576 = omega arith in
-        let z : nextAt v b place ≤ length b = omega arith in
-        rw (eh, em, en, le-ltb (length b - place) 6 some, le-ltb 1048576 (bodyLength b place) y, le-ltb (length b) (nextAt v b place) z)
+pub entry-whole : {v : Version} {b : List ℕ} {place h m n : ℕ} → WholeAt v b place h m n → Whole h m n ≡ entryAt v b place
+unfolding entryAt pick
+entry-whole {v} {b} {place} w =
+    rw (w .is-header, w .is-body, w .is-next, le-ltb (length b - place) 6 (omega arith), le-ltb 1048576 (bodyLength b place) (omega arith), le-ltb (length b) (nextAt v b place) (omega arith))
 
 -- what a whole entry tells
 unless : (t : Bool) (x e : Entry) (h m n : ℕ) → pick t x e ≡ Whole h m n → (x ≡ Whole h m n → ⊥) → (t ≡ false) × (e ≡ Whole h m n)

@@ -6,7 +6,7 @@ use mathlib.Core.List.{List, [], _∷_, _++_}
 use mathlib.Core.Logic.{_⊎_, ⊎-elim}
 use mathlib.Core.Bool.{false}
 use lib.ListN.{length, getD, take, length-append}
-use lib.Seq.{sets}
+use lib.Seq.{sets, take-at}
 use borrow.Author.Tests.{not-false}
 use Rattle.fields.specs.Numbers.{bytesOf}
 use Rattle.fields.proofs.Stores.{getD-sets-before, getD-sets-after}
@@ -26,9 +26,10 @@ use Rattle.bundle.specs.Opening.{lastRows, openTable, bodyAt, opens}
 use Rattle.bundle.specs.Writing.{startTable, starts, endOf, endWith, addTable, withEntry, adds}
 use Rattle.bundle.specs.Contents.{Pair, labelled, after, entriesOf, bundleWith, addsAll, AllAdded, OpensAll}
 use Rattle.bundle.proofs.Tables.{through}
-use Rattle.bundle.proofs.Entries.{last-good, survey-walks}
-use Rattle.bundle.proofs.Contents.{number-at, length-entry, entry-is, Sealed, opens-all, walk-all}
-use Rattle.bundle.proofs.Written.{Holds, ends, start-accepted, number-first, add-accepted, add-is, all-holds}
+use Rattle.bundle.proofs.Entries.{entry-whole, last-good, survey-walks}
+use Rattle.bundle.proofs.Contents.{number-in, length-entry, stands, Sealed, opens-all, walk-all}
+use Rattle.bundle.proofs.Writing.{start-accepted, add-accepted, adds-is}
+use Rattle.bundle.proofs.Written.{Holds, ends, number-first, all-holds}
 
 -- ---- refusals keep everything
 
@@ -124,12 +125,12 @@ pub others-stand : (v : Version) (s : Session) (h b d : List ℕ) (i : ℕ) → 
     → (i < 1) ⊎ ((5 ≤ i) × (i < endOf d)) ⊎ (endWith v d (length h) (length b) ≤ i) → getD (adds v s h b d .buffer) i 0 ≡ getD d i 0
 unfolding withEntry
 others-stand v s h b d i e w =
-    let a = add-accepted v s s h b d e in
+    let a = add-accepted v s h b d e in
     let n : ℕ = endWith v d (length h) (length b) - 5 in
     let l = length-bytesOf 4 n in
     let m = length-entry v s h b (a .ready) in
     let x : List ℕ = sets d (endOf d) (entryOf s h b) in
-    rw (add-is v s s h b d a)
+    rw (adds-is v s h b d a)
     (⊎-elim
     (λ (y : i < 1). getD-sets-before (bytesOf 4 n) x 1 i 0 y ∙ getD-sets-before (entryOf s h b) d (endOf d) i 0 (omega arith))
     (⊎-elim
@@ -153,7 +154,7 @@ module _ (v : Version) (s : Session) (label d : List ℕ) (ps : List Pair) (all 
   -- The bundle is the entries of all pairs in order, with the label's in front, and the session is the one after them.
   pub written-is : (written ≡ bundleWith v s (labelled label ∷ ps)) × (final .answer .session ≡ after s (labelled label ∷ ps))
   written-is =
-      (ap (λ (n : ℕ). take n (final .buffer)) (ends v s (labelled label ∷ ps) (final .answer .session) (final .buffer) holds) ∙ holds .held, holds .session)
+      (ap (λ (d : List ℕ). take (endOf (final .buffer)) d) (holds .held) ∙ take-at (bundleWith v s (labelled label ∷ ps)) (holds .rest) (endOf (final .buffer)) (sym (ends v s (labelled label ∷ ps) (final .answer .session) (final .buffer) holds)), holds .session)
 
   abbrev front : List ℕ
   front = v .number ∷ bytesOf 4 (length (entriesOf s (labelled label ∷ ps)))
@@ -172,7 +173,7 @@ module _ (v : Version) (s : Session) (label d : List ℕ) (ps : List Pair) (all 
   entry-zero : false ≡ unlabelled (entryAt v (front ++ entriesOf s (labelled label ∷ ps)) 5)
   unfolding entriesOf Sealed unlabelled
   entry-zero =
-      rw (← length-front, entry-is v s label [] (holds .sealed .0) front (entriesOf (next desk s label []) ps))
+      rw (← length-front, ← entry-whole (stands v s label [] (holds .sealed .0) front (entriesOf (next desk s label []) ps)))
       (sym (start-accepted v s label d (number-first v s (starts v s label d) ps all) .label))
 
   walked : accepted 0 (suc (length ps) ∷ []) ≡ entriesFrom v (front ++ entriesOf s (labelled label ∷ ps)) 5 0
@@ -189,4 +190,4 @@ module _ (v : Version) (s : Session) (label d : List ℕ) (ps : List Pair) (all 
       let n : ℕ = length (entriesOf s xs) in
       let l : length b ≡ 5 + n = omega (arith, length-append front (entriesOf s xs), length-front) in
       rw (written-is .0, as-parts)
-      (survey-walks v b (omega arith) (omega (arith, holds .bytes)) refl (number-at 4 n (v .number ∷ []) (entriesOf s xs) 1 refl (omega (arith, holds .bytes)) ∙ omega arith) ∙ sym walked)
+      (survey-walks v b (omega arith) (omega (arith, holds .bytes)) refl (number-in 4 n b (v .number ∷ []) (entriesOf s xs) 1 refl refl (omega (arith, holds .bytes)) ∙ omega arith) ∙ sym walked)

@@ -17,8 +17,7 @@ returns-4 : tie.Need-returns-4
 returns-4 c = entry-past _ _ _ (search needs) (search needs) (search needs)
 
 returns-5 : tie.Need-returns-5
-returns-5 c =
-    entry-whole _ _ _ (search needs) _ _ _ (search needs) (search needs) (search needs) (search needs) (search needs)
+returns-5 c = entry-whole (search needs)
 
 pub entry-at-spec : {M : Type 1} → statement M
 entry-at-spec =
