@@ -71,6 +71,13 @@ not-whole Short place k z = omega arith
 not-whole Large place k z = omega arith
 not-whole Past place k z = omega arith
 
+pub not-labelled : (e : Entry) → (entryTold e 0 .number ≡ 0 → ⊥) → true ≡ unlabelled e
+unfolding unlabelled
+not-labelled (Whole h m n) d = absurd (d refl)
+not-labelled Short d = refl
+not-labelled Large d = refl
+not-labelled Past d = refl
+
 pub entry-bad : (e f : Entry) (place n p : ℕ) (q : Told) → e ≡ f → (entryTold e place .number ≡ 0 → ⊥) → n ≡ entryTold e place .number
     → p ≡ entryTold e place .place → refused n p ≡ (entryTold f place orElse q)
 unfolding by

@@ -36,6 +36,10 @@ pub const FIRST: usize = 5;
 // The two lengths that stand before an entry's parts.
 const LENGTHS: usize = 6;
 
+const LEAST_LABEL: usize = 16;
+
+const MOST_LABEL: usize = 64;
+
 const MOST_BYTES: usize = 16_777_216;
 
 const MOST_ENTRIES: usize = 65_535;
@@ -152,23 +156,22 @@ pub fn calls_of(header: usize, body: usize) -> u64
 fn bad_label(label: usize) -> bool
     ensures { λ r. ⌜ r ≡ badLabel label ⌝ }
 {
-    label < 16 || 64 < label
+    refusal::outside(LEAST_LABEL, MOST_LABEL, label)
 }
 
 // Whether an entry is unfit to be entry zero.
 fn is_unlabelled(entry: Entry) -> bool
     ensures { λ r. ⌜ r ≡ unlabelled entry ⌝ }
 {
-    match entry {
-        Entry::Whole {
-            header,
-            body,
-            next: _,
-        } => body != 0 || bad_label(header),
-        Entry::Short => true,
-        Entry::Large => true,
-        Entry::Past => true,
-    }
+    let Entry::Whole {
+        header,
+        body,
+        next: _,
+    } = entry
+    else {
+        return true;
+    };
+    body != 0 || bad_label(header)
 }
 
 // The entries of a bundle whose first bytes are right, in one pass; last, entry zero.
