@@ -28,7 +28,7 @@ use Rattle.bundle.specs.Contents.{Pair, labelled, after, entriesOf, bund
 use Rattle.bundle.proofs.Tables.{through}
 use Rattle.bundle.proofs.Entries.{entry-whole, last-good, survey-walks}
 use Rattle.bundle.proofs.Contents.{number-in, length-entry, stands, Sealed, opens-all, walk-all}
-use Rattle.bundle.proofs.Writing.{start-accepted, add-accepted, adds-is}
+use Rattle.bundle.proofs.Stores.{start-accepted, add-accepted, adds-is}
 use Rattle.bundle.proofs.Written.{Holds, ends, number-first, all-holds}
 
 -- ---- refusals keep everything
