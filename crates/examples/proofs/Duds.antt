@@ -1,5 +1,5 @@
 -- Functions that no contract lets through (document 01, "How much each contract must say"): one input, or two, shut each dud out.
--- A dud is of the code's own type: what it is handed, and what is said of it, are inputs that the code can be handed.
+-- A dud is a function of what the code can be handed (Inputs), and what it does wrong is said of those inputs only.
 use Prim.Native.Nat.{ℕ, _<_}
 use native.Mathlib.Omega.{arith}
 use mathlib.Core.Path.{_≡_, refl, sym, ap, _∙_}
@@ -21,7 +21,7 @@ use Rattle.spongewrap.specs.declared.Answer.{Answer}
 use Rattle.spongewrap.proofs.Theorems.{wrap-number, unwrap-number, wrapped-is, unwrapped-is, unwrap-accepts-exactly, wrong-tag-releases-nothing, text-is, mark-is}
 use Rattle.spongewrap.proofs.Passed.{unwrap-fits}
 use Rattle.spongewrap.proofs.Settle.{length-tagOf}
-use Rattle.examples.proofs.Inputs.{Bytes, Opening, Wrapping, Unwrapping, wrapping-under, unwrapping-under, blanks, single, plain, good, bad, room, wrapping-zeros, empty, wrapping-byte, unwrapping}
+use Rattle.examples.proofs.Inputs.{Bytes, Opening, Wrapping, Unwrapping, wrapping-under, unwrapping-under, blanks, single, plain, good, bad, room, wrapping-zeros, empty, wrapping-byte, unwrapping-byte}
 use Rattle.examples.proofs.Values.{after-header, after-body, after-pair, no-header, no-body, next-state, first-byte, first-opened, no-cipher, due, due-bytes, tag-zero, tag-one}
 
 -- ---- open
@@ -161,7 +161,7 @@ module _ (g : Wrapping → Seen) (meets : (i : Wrapping) → g i ≡ wraps desk 
 
 -- the tag of an empty body
 unwrapping-due : Unwrapping
-unwrapping-due = unwrapping 136 [] due (lit< tt) (blanks 0 (lit< tt)) due-bytes
+unwrapping-due = unwrapping-byte 136 [] due (lit< tt) (blanks 0 (lit< tt)) due-bytes
 
 module _ (g : Unwrapping → Seen) (meets : (i : Unwrapping) → g i ≡ unwraps desk (i .session) (i .header) (i .cipher) (i .tag) (i .out)) where
   unwraps-well : unwraps desk (plain 0x303 136) (0 ∷ []) [] due [] .answer .number ≡ 0
@@ -169,7 +169,7 @@ module _ (g : Unwrapping → Seen) (meets : (i : Unwrapping) → g i ≡ unwraps
   unwraps-well = unwrap-accepts-exactly desk (plain 0x303 136) (0 ∷ []) [] due [] refl .1 (rw no-cipher (sym tag-zero))
 
   due-well : g unwrapping-due .answer .number ≡ 0
-  unfolding unwrapping-due unwrapping
+  unfolding unwrapping-due unwrapping-byte
   due-well = rw meets unwraps-well
 
   -- An unwrap that refuses everything.
@@ -178,15 +178,15 @@ module _ (g : Unwrapping → Seen) (meets : (i : Unwrapping) → g i ≡ unwraps
 
   -- An unwrap with a fixed number.
   pub unwrap-fixed : (v : ℕ) → ((i : Unwrapping) → g i .answer .number ≡ v) → ⊥
-  unfolding unwrapping plain unwrapRefusal pick
+  unfolding unwrapping-byte plain unwrapRefusal pick
   unwrap-fixed v d =
-      let i = unwrapping 0 [] [] (lit< tt) (blanks 0 (lit< tt)) (blanks 0 (lit< tt)) in
+      let i = unwrapping-byte 0 [] [] (lit< tt) (blanks 0 (lit< tt)) (blanks 0 (lit< tt)) in
       let z : _≡_ {A = ℕ} 0 1 = sym due-well ∙ d unwrapping-due ∙ sym (d i) ∙ rw meets (unwrap-number desk (plain 0x303 0) (0 ∷ []) [] [] []) in
       omega arith
 
   -- An unwrap that does nothing: it gives back the session that it took.
   pub unwrap-does-nothing : ((i : Unwrapping) → g i .answer .number ≡ 0 → g i .answer .session ≡ i .session) → ⊥
-  unfolding unwrapping-due unwrapping plain next advanced
+  unfolding unwrapping-due unwrapping-byte plain next advanced
   unwrap-does-nothing d =
       let e : unwraps desk (plain 0x303 136) (0 ∷ []) [] due [] .answer .session ≡ plain 0x303 136 = rw meets at (d unwrapping-due due-well) in
       let z : _≡_ {A = ℕ} 2 1 = ap (λ (s : Session). s .pairs) (sym (ap (λ (v : Seen). v .answer .session) (unwrapped-is desk (plain 0x303 136) (0 ∷ []) [] due [] unwraps-well)) ∙ e) in
@@ -195,11 +195,11 @@ module _ (g : Unwrapping → Seen) (meets : (i : Unwrapping) → g i ≡ unwraps
   -- An unwrap that writes the plaintext and then checks the tag.
   pub unwrap-writes-early : ((i : Unwrapping) → g i .answer .number ≡ 8
       → take (length (i .cipher)) (g i .out) ≡ recovered desk (i .session) (i .header) (i .cipher)) → ⊥
-  unfolding unwrapping plain pick
+  unfolding unwrapping-byte plain pick
   unwrap-writes-early d =
       let s = plain 0x303 136 in
       let x : List ℕ = 0 ∷ [] in
-      let i = unwrapping 136 x [] (lit< tt) (single 0 (lit< tt)) (blanks 0 (lit< tt)) in
+      let i = unwrapping-byte 136 x [] (lit< tt) (single 0 (lit< tt)) (blanks 0 (lit< tt)) in
       let r = unwrap-fits desk s 1 1 1 refl .0 .rate in
       let other : [] ≡ tagOf desk s x (recovered desk s x x) → ⊥ = λ e. omega (arith, ap length e, length-tagOf desk s x (recovered desk s x x) r) in
       let n = meets i ∙ wrong-tag-releases-nothing desk s x x [] x refl other in
@@ -210,7 +210,7 @@ module _ (g : Unwrapping → Seen) (meets : (i : Unwrapping) → g i ≡ unwraps
   -- An unwrap that opens under another member's header: what is accepted under one is accepted under any of that length.
   pub unwrap-opens-under-other : ((i : Unwrapping) (h : List ℕ) (p : Bytes h) → length h ≡ length (i .header)
       → g i .answer .number ≡ 0 → g (unwrapping-under h p i) .answer .number ≡ 0) → ⊥
-  unfolding unwrapping-due unwrapping plain pick due
+  unfolding unwrapping-due unwrapping-byte plain pick due
   unwrap-opens-under-other d =
       let e : unwraps desk (plain 0x303 136) (1 ∷ []) [] due [] .answer .number ≡ 0 = rw meets at (d unwrapping-due (1 ∷ []) (single 1 (lit< tt)) refl due-well) in
       let t : due ≡ tagOf desk (plain 0x303 136) (1 ∷ []) [] = rw no-cipher at (unwrap-accepts-exactly desk (plain 0x303 136) (1 ∷ []) [] due [] refl .0 e) in

@@ -111,6 +111,6 @@ wrapping-byte =
     record { session = plain 0x303 136; header = 0 ∷ []; body = []; out = room; fits = (plain-held 0x303 136 (lit< tt) (lit< tt), single 0 (lit< tt), blanks 0 (lit< tt), room-bytes) }
 
 -- an unwrap under the header 0, at the rate R
-unfoldable pub unwrapping : (R : ℕ) (c t : List ℕ) → R < 2 ^ 16 → Bytes c → Bytes t → Unwrapping
-unwrapping R c t p q r =
+unfoldable pub unwrapping-byte : (R : ℕ) (c t : List ℕ) → R < 2 ^ 16 → Bytes c → Bytes t → Unwrapping
+unwrapping-byte R c t p q r =
     record { session = plain 0x303 R; header = 0 ∷ []; cipher = c; tag = t; out = c; fits = (plain-held 0x303 R (lit< tt) p, single 0 (lit< tt), q, r, q) }
