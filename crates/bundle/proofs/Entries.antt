@@ -123,7 +123,7 @@ module _ (v : Version) (b : List ℕ) (k : ℕ) (e : Entry) (t : Bool) (g : e �
   unfolding last
   last-bad h = let z : unlabelled (entryAt v b 5) ≡ true = cc in stops-at 11 5 _ (taken 11 0 z) refl
 
-  pub last-good : t ≡ false → accepted 0 (k ∷ []) ≡ last v b k
+  pub last-good : t ≡ false → accepted (k ∷ []) ≡ last v b k
   unfolding last
   last-good h = let z : unlabelled (entryAt v b 5) ≡ false = cc in goes 5 (passed 11 z refl) refl refl
 

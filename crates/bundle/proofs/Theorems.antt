@@ -5,7 +5,7 @@ use mathlib.Core.Path.{_≡_, refl, sym, ap, _∙_}
 use mathlib.Core.List.{List, [], _∷_, _++_}
 use mathlib.Core.Logic.{_⊎_, ⊎-elim}
 use mathlib.Core.Bool.{false}
-use lib.ListN.{length, getD, take, length-append}
+use lib.ListN.{length, getD, take, drop, length-append}
 use lib.Seq.{sets, take-at}
 use borrow.Author.Tests.{not-false}
 use Rattle.fields.specs.Numbers.{bytesOf}
@@ -58,40 +58,42 @@ open-kept v s b place o w = settled-kept (openTable v s b place (length o)) s _ 
 
 -- ---- the places of an opening
 
-at-place : (m p : ℕ) (q : Told) → (by m (refused m p) q .number ≡ 0 → ⊥) → ((q .number ≡ 0 → ⊥) → q .place ≡ p) → by m (refused m p) q .place ≡ p
+-- a table that refuses does so at p, and answers no value
+abbrev At : ℕ → Told → Type 0
+At p t = (t .number ≡ 0 → ⊥) → t ≡ refused (t .number) p
+
+at-place : (m p : ℕ) (q : Told) → At p q → At p (by m (refused m p) q)
 unfolding by
-at-place zero p q w f = f w
-at-place (suc m) p q w f = refl
+at-place zero p q f w = f w
+at-place (suc m) p q f w = refl
 
-at-entry : (e : Entry) (p : ℕ) (q : Told) → ((entryTold e p orElse q) .number ≡ 0 → ⊥) → ((q .number ≡ 0 → ⊥) → q .place ≡ p) → (entryTold e p orElse q) .place ≡ p
+at-entry : (e : Entry) (p : ℕ) (q : Told) → At p q → At p (entryTold e p orElse q)
 unfolding by
-at-entry (Whole h m n) p q w f = f w
-at-entry Short p q w f = refl
-at-entry Large p q w f = refl
-at-entry Past p q w f = refl
+at-entry (Whole h m n) p q f w = f w
+at-entry Short p q f w = refl
+at-entry Large p q f w = refl
+at-entry Past p q f w = refl
 
--- A refused opening carries the place that was asked for.
-pub open-place : (v : Version) (s : Session) (b : List ℕ) (place : ℕ) (o : List ℕ) → (opens v s b place o .answer .number ≡ 0 → ⊥)
-    → opens v s b place o .answer .place ≡ place
-unfolding opens openTable
-open-place v s b place o w =
-    at-place (first (own v s)) place _ w (λ x. at-entry (entryAt v b place) place _ x (λ y. at-place _ place _ y (λ z. absurd (z refl))))
+open-at : (v : Version) (s : Session) (b : List ℕ) (place out : ℕ) → At place (openTable v s b place out)
+unfolding openTable
+open-at v s b place out =
+    at-place (first (own v s)) place _ (at-entry (entryAt v b place) place _ (at-place _ place _ (λ z. absurd (z refl))))
 
-seen-is : (u : Seen) (n p : ℕ) (s : Session) (d : List ℕ) → u .answer .number ≡ n → u .answer .place ≡ p → u .answer .session ≡ s → u .buffer ≡ d
-    → u ≡ seen (record { number = n; place = p; session = s }) d
-seen-is u n p s d en ep es ed = rw (← en, ← ep, ← es, ← ed)
-
-refused-is : (v : Version) (s : Session) (b : List ℕ) (place : ℕ) (o : List ℕ) (n : ℕ) → opens v s b place o .answer .number ≡ suc n
-    → opens v s b place o ≡ seen (record { number = suc n; place = place; session = s }) o
-refused-is v s b place o n e =
-    let w : opens v s b place o .answer .number ≡ 0 → ⊥ = λ z. omega arith in
-    let k = open-kept v s b place o w in
-    seen-is (opens v s b place o) (suc n) place s o e (open-place v s b place o w) (k .session) (k .buffer)
+-- A refused opening carries the place that was asked for, and no next one; it gives session and output back.
+pub open-refused : (v : Version) (s : Session) (b : List ℕ) (place : ℕ) (o : List ℕ) → (opens v s b place o .answer .number ≡ 0 → ⊥)
+    → opens v s b place o ≡ seen (record { number = opens v s b place o .answer .number; place = place; next = 0; session = s }) o
+unfolding opens
+open-refused v s b place o w =
+    let t = openTable v s b place (length o) in
+    let e = open-at v s b place (length o) w in
+    let k = settled-kept t s (next desk s (headerAt b place) (bodyAt s b place)) o (bodyAt s b place ++ drop (length (bodyAt s b place)) o) w in
+    rw (k .session, k .buffer, ap (λ (u : Told). u .place) e, ap (λ (u : Told). getD (u .values) 0 0) e)
 
 -- All refusals numbered 8 at one place are the same, whatever bundle was handed over and whichever byte differs.
 pub eights-alike : (v : Version) (s : Session) (place : ℕ) (o b b′ : List ℕ) → opens v s b place o .answer .number ≡ 8 → opens v s b′ place o .answer .number ≡ 8
     → opens v s b place o ≡ opens v s b′ place o
-eights-alike v s place o b b′ e f = refused-is v s b place o 7 e ∙ sym (refused-is v s b′ place o 7 f)
+eights-alike v s place o b b′ e f =
+    open-refused v s b place o (λ z. omega arith) ∙ rw (e, ← f) (sym (open-refused v s b′ place o (λ z. omega arith)))
 
 -- ---- the tag of an entry
 
@@ -108,7 +110,7 @@ pub opened-tag : (v : Version) (s : Session) (b : List ℕ) (place : ℕ) (o : L
 unfolding opens openTable bodyAt foreign
 opened-tag v s b place o e =
     let p = through (first (own v s)) place _ e in
-    let q = through _ place (accepted (nextAt v b place) []) (past-entry (entryAt v b place) place _ (p .1)) in
+    let q = through _ place (accepted (nextAt v b place ∷ [])) (past-entry (entryAt v b place) place _ (p .1)) in
     let c = all-clear (lastRows v s b place (length o)) refl (q .0) in
     same-eq _ _ (not-false _ (c .1 .0))
 
@@ -176,14 +178,14 @@ module _ (v : Version) (s : Session) (label d : List ℕ) (ps : List Pair) (all 
       rw (← length-front, ← entry-whole (stands v s label [] (holds .sealed .0) front (entriesOf (next desk s label []) ps)))
       (sym (start-accepted v s label d (number-first v s (starts v s label d) ps all) .label))
 
-  walked : accepted 0 (suc (length ps) ∷ []) ≡ entriesFrom v (front ++ entriesOf s (labelled label ∷ ps)) 5 0
+  walked : accepted (suc (length ps) ∷ []) ≡ entriesFrom v (front ++ entriesOf s (labelled label ∷ ps)) 5 0
   walked =
       let e : 0 + length (labelled label ∷ ps) ≡ suc (length ps) = omega arith in
       last-good v (front ++ entriesOf s (labelled label ∷ ps)) (suc (length ps)) _ false refl entry-zero refl
       ∙ rw (← e, ← length-front) (sym (walk-all v s (labelled label ∷ ps) front 0 (holds .sealed) (omega (arith, holds .few))))
 
   -- Its survey accepts it, with the number of its entries.
-  pub survey-written : surveys v written ≡ accepted 0 (suc (length ps) ∷ [])
+  pub survey-written : surveys v written ≡ accepted (suc (length ps) ∷ [])
   survey-written =
       let xs = labelled label ∷ ps in
       let b : List ℕ = front ++ entriesOf s xs in

@@ -3,6 +3,7 @@ use Prim.Native.Nat.{ℕ}
 use mathlib.Core.List.{List, [], _∷_}
 use mathlib.Core.Bool.{Bool, not}
 use lib.Dec.{eqb}
+use lib.ListN.{getD}
 use Rattle.spongewrap.specs.Desk.{desk}
 use Rattle.refusal.specs.Rows.{first, by}
 use Rattle.spongewrap.specs.Refusals.{full, ownRows}
@@ -23,8 +24,8 @@ pub record Told : Type 0 where
 abbrev pub refused : ℕ → ℕ → Told
 refused number place = record { number = number; place = place; values = [] }
 
-abbrev pub accepted : ℕ → List ℕ → Told
-accepted place values = record { number = 0; place = place; values = values }
+abbrev pub accepted : List ℕ → Told
+accepted values = record { number = 0; place = 0; values = values }
 
 -- ---- tables of refusals: the first that refuses, else what stands last
 
@@ -44,14 +45,14 @@ own v s = ownRows (not (eqb (s .rate) bundleRate)) (not (eqb (s .tag) (v .tag)))
 
 -- an entry at a place
 abbrev pub entryTold : Entry → ℕ → Told
-entryTold (Whole header body next) place = accepted 0 (header ∷ body ∷ next ∷ [])
+entryTold (Whole header body next) place = accepted (header ∷ body ∷ next ∷ [])
 entryTold Short place = refused 9 place
 entryTold Large place = refused 9 place
 entryTold Past place = refused 9 place
 
 -- a survey
 abbrev pub surveyTold : Surveyed → Told
-surveyTold (Entries n) = accepted 0 (n ∷ [])
+surveyTold (Entries n) = accepted (n ∷ [])
 surveyTold (Refused number place) = refused number place
 
 -- ---- the calls that hand a session back
@@ -64,6 +65,6 @@ pub record Seen : Type 0 where
 abbrev pub seen : Answer → List ℕ → Seen
 seen a d = record { answer = a; buffer = d }
 
--- by its table: a refusal keeps the session s and the buffer d; else they are s′ and d′
+-- by its table: a refusal keeps the session s and the buffer d; else they are s′ and d′, and the next place is what it answers
 abbrev pub settled : Told → Session → List ℕ → Session → List ℕ → Seen
-settled t s d s′ d′ = seen (record { number = t .number; place = t .place; session = by (t .number) s s′ }) (by (t .number) d d′)
+settled t s d s′ d′ = seen (record { number = t .number; place = t .place; next = getD (t .values) 0 0; session = by (t .number) s s′ }) (by (t .number) d d′)

@@ -15,13 +15,13 @@ abbrev pub lastRows : Version → Session → List ℕ → ℕ → ℕ → List 
 lastRows v s b place out =
     (short out (bodyLength b place), 6) ∷ (foreign desk s (headerAt b place) (cipherAt b place) (tagAt v b place), 8) ∷ []
 
--- 1, 3, 7, then 9 under the entry rules, 6, 8, each at that place; else the next place. `out` is the lent output's length
+-- 1, 3, 7, then 9 under the entry rules, 6, 8, each at that place; else the next entry's place is answered. `out` is the lent output's length
 unfoldable pub openTable : Version → Session → List ℕ → ℕ → ℕ → Told
 openTable v s b place out =
     placed place (own v s)
     orElse entryTold (entryAt v b place) place
     orElse placed place (lastRows v s b place out)
-    orElse accepted (nextAt v b place) []
+    orElse accepted (nextAt v b place ∷ [])
 
 -- the body of the entry
 unfoldable pub bodyAt : Session → List ℕ → ℕ → List ℕ

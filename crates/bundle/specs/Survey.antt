@@ -20,7 +20,7 @@ unlabelled Past = true
 
 -- last, 11 at 5; else the number of entries
 unfoldable pub last : Version → List ℕ → ℕ → Told
-last v b k = placed 5 ((unlabelled (entryAt v b 5), 11) ∷ []) orElse accepted 0 (k ∷ [])
+last v b k = placed 5 ((unlabelled (entryAt v b 5), 11) ∷ []) orElse accepted (k ∷ [])
 
 -- entry by entry: number k is at `place`, and n more may come before entry 65,535, which is 7 at its first byte
 unfoldable pub walk : Version → ℕ → List ℕ → ℕ → ℕ → Told

@@ -50,10 +50,12 @@ pub enum Surveyed {
     Refused { number: u8, place: usize },
 }
 
-// What a call with a session answers: 0 or a refusal's number, a place, and a session.
+// What a call with a session answers: 0 or a refusal's number, a refusal's place, the place of the entry after one that opened,
+// and a session. Where there is no such place it is 0.
 pub struct Answer {
     pub number: u8,
     pub place: usize,
+    pub next: usize,
     pub session: Session,
 }
 
@@ -91,12 +93,24 @@ fn entry_refusal(entry: Entry, place: usize) -> Refusal
     }
 }
 
-fn answered(number: u8, place: usize, session: Session) -> Answer
-    ensures { λ r. ⌜ r ≡ record { number = number; place = place; session = session } ⌝ }
+fn refuse(number: u8, place: usize, session: Session) -> Answer
+    ensures { λ r. ⌜ r ≡ record { number = number; place = place; next = 0; session = session } ⌝ }
 {
     Answer {
         number,
         place,
+        next: 0,
+        session,
+    }
+}
+
+fn accept(next: usize, session: Session) -> Answer
+    ensures { λ r. ⌜ r ≡ record { number = 0; place = 0; next = next; session = session } ⌝ }
+{
+    Answer {
+        number: 0,
+        place: 0,
+        next,
         session,
     }
 }

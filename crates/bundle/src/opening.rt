@@ -7,10 +7,11 @@ ghost use Rattle.bundle.specs.Answers.{own, seen};
 ghost use Rattle.bundle.specs.Opening.{unwrapsAt, opens};
 use crate::Answer;
 use crate::Entry;
-use crate::answered;
+use crate::accept;
 use crate::entry_refusal;
 use crate::format;
 use crate::own_refusal;
+use crate::refuse;
 use spongewrap::Session;
 
 // Unwraps the parts of the whole entry at a place.
@@ -38,16 +39,16 @@ fn unwrap_at(
     )
 }
 
-// The answer to an opening, by that of its unwrap: a refusal carries the place that was asked for, else it is the next entry's.
+// The answer to an opening, by that of its unwrap: a refusal carries the place that was asked for, and else the next entry's is told.
 fn placed(done: spongewrap::Answer, place: usize, next: usize) -> Answer
-    ensures { λ r. ⌜ r ≡ record { number = done .number; place = by (done .number) place next; session = done .session } ⌝ }
+    ensures { λ r. ⌜ r ≡ record { number = done .number; place = by (done .number) place 0; next = by (done .number) 0 next; session = done .session } ⌝ }
 {
     let number = done.number;
     let session = done.session;
     if number != 0 {
-        return answered(number, place, session);
+        return refuse(number, place, session);
     }
-    answered(0, next, session)
+    accept(next, session)
 }
 
 // Opens the whole entry at a place, past the checks of session and entry.
@@ -67,19 +68,19 @@ fn open_whole(
     placed(done, place, next)
 }
 
-// Opens the entry at a place: its body goes to the first bytes of `out`, and the answer's place is the next entry's.
+// Opens the entry at a place: its body goes to the first bytes of `out`, and the answer says where the next entry stands.
 // A refusal carries the place that was asked for.
 pub fn open_entry(s: Session, bundle: &[u8], place: usize, out: &mut [u8]) -> Answer
     ensures { λ r. ⌜ seen r (now (out .exit)) ≡ opens version1 s (now (bundle .entry)) place (now (out .entry)) ⌝ }
 {
     let number = own_refusal(s);
     if number != 0 {
-        return answered(number, place, s);
+        return refuse(number, place, s);
     }
     let entry = format::entry_at(bundle, place);
     let Entry::Whole { header, body, next } = entry else {
         let r = entry_refusal(entry, place);
-        return answered(r.number, r.place, s);
+        return refuse(r.number, r.place, s);
     };
     open_whole(s, bundle, place, header, body, next, out)
 }

@@ -14,9 +14,10 @@ use crate::MALFORMED;
 use crate::NO_LABEL;
 use crate::OTHER_VERSION;
 use crate::Refusal;
-use crate::answered;
+use crate::accept;
 use crate::format;
 use crate::own_refusal;
+use crate::refuse;
 use spongewrap::Session;
 use spongewrap::orders;
 
@@ -77,10 +78,10 @@ pub fn start(s: Session, label: &[u8], bundle: &mut [u8]) -> Answer
 {
     let number = start_refusal(s, label.len(), bundle.len());
     if number != 0 {
-        return answered(number, 0, s);
+        return refuse(number, 0, s);
     }
     let session = write_first(s, label, bundle);
-    answered(0, 0, session)
+    accept(0, session)
 }
 
 // Where a buffer says that its bundle ends.
@@ -186,8 +187,8 @@ pub fn add(s: Session, header: &[u8], body: &[u8], bundle: &mut [u8]) -> Answer
     let number = r.number;
     let place = r.place;
     if number != 0 {
-        return answered(number, place, s);
+        return refuse(number, place, s);
     }
     let session = write_last(s, header, body, bundle);
-    answered(0, 0, session)
+    accept(0, session)
 }

@@ -238,7 +238,7 @@ fn settled(answer: bundle::Answer, image: &mut [u8]) -> u64
     }
     let session = answer.session;
     image::put_session(session, image);
-    told(0, answer.place)
+    told(0, answer.next)
 }
 
 #[no_mangle]

@@ -11,12 +11,12 @@ use Rattle.bundle.proofs.opening.open_entry.Tie as tie
 returns : tie.Need-returns
 unfolding opens openTable
 returns c =
-    rw (c .answered .ensures)
+    rw (c .refuse .ensures)
     (settle-stops _ _ _ _ _ _ _ (stops _ _ _ (c .before .before .own-refusal .ensures) (c .before .if1 .taken)) (c .before .if1 .taken))
 
 returns-2 : tie.Need-returns-2
 returns-2 c =
-    rw (c .answered2 .ensures)
+    rw (c .refuse2 .ensures)
     (let e = c .before .before .before .entry-at in
     open-bad _ _ _ _ _ (e .result) _ _ (sym (c .before .before .before .before .before .own-refusal .ensures) ∙ c .before .before .before .before .if1 .left) (e .ensures)
     (not-whole (e .result) _ (c .before .before .match .keys2)) (c .before .entry-refusal .ensures .0) (c .before .entry-refusal .ensures .1))

@@ -9,13 +9,13 @@ use Rattle.bundle.proofs.writing.add.Tie as tie
 returns : tie.Need-returns
 unfolding adds
 returns c =
-    rw (c .answered .ensures) (settle-stops _ _ _ _ _ _ _ (c .before .before .add-refusal .ensures) (c .before .if1 .taken))
+    rw (c .refuse .ensures) (settle-stops _ _ _ _ _ _ _ (c .before .before .add-refusal .ensures) (c .before .if1 .taken))
 
 write-last-requires : tie.Need-write-last-requires
 write-last-requires c κs = let f = add-found _ _ _ _ _ _ _ (c .before .before .add-refusal .ensures) (c .before .if1 .left) in (f .ready, f .room, f .bytes)
 
 returns-2 : tie.Need-returns-2
-returns-2 c = rw (c .answered2 .ensures) (search added)
+returns-2 c = rw (c .accept .ensures) (search added)
 
 pub add-spec : {M : Type 1} → statement M
 add-spec =

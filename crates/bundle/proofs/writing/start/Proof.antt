@@ -9,13 +9,13 @@ use Rattle.bundle.proofs.writing.start.Tie as tie
 returns : tie.Need-returns
 unfolding starts
 returns c =
-    rw (c .answered .ensures) (settle-stops _ _ _ _ _ _ _ (c .before .before .start-refusal .ensures) (c .before .if1 .taken))
+    rw (c .refuse .ensures) (settle-stops _ _ _ _ _ _ _ (c .before .before .start-refusal .ensures) (c .before .if1 .taken))
 
 write-first-requires : tie.Need-write-first-requires
 write-first-requires c κs = let f = start-found _ _ _ _ _ (c .before .before .start-refusal .ensures) (c .before .if1 .left) in (f .ready, f .room)
 
 returns-2 : tie.Need-returns-2
-returns-2 c = rw (c .answered2 .ensures) (search started)
+returns-2 c = rw (c .accept .ensures) (search started)
 
 pub start-spec : {M : Type 1} → statement M
 start-spec =
