@@ -12,7 +12,7 @@ use Rattle.sponge.specs.Pieces.{piece, before}
 use Rattle.sponge.specs.Sponge.{absorb, iterate}
 use Rattle.sponge.proofs.Pieces.{length-piece, absorb-append}
 use Rattle.sponge.proofs.Turns.{piece-written}
-use Rattle.sponge.proofs.Squeeze.{length-bytes, onward, given, given-even, reached-iterate, squeeze-written, length-squeeze}
+use Rattle.sponge.proofs.Squeeze.{length-bytes, onward, given, given-length, reached-iterate, squeeze-written, length-squeeze}
 use Rattle.duplex.specs.Duplex.{framed, blank, drawn, after}
 use Rattle.duplex.specs.Strings.{blocks}
 use Rattle.duplex.proofs.Strings.{duplexing-blocks}
@@ -44,9 +44,9 @@ unfolding drawn blocks
 drawn-over w f R a s k l h =
     let m : ℕ = R - 1 in
     let Z : List ℕ = bytes w (iterate (blank w f R) a k) in
-    let e = piece-written m (onward (blank w f R)) (given w) s a (given-even w m l) k (le-of-suc-le-suc h) in
-    rw (← blanks-absorb w f R a k, squeeze-written w (blank w f R) m a s (given-even w m l), e, reached-iterate w (blank w f R) m a s k)
-    (rw (length-take-le (length (piece m s k)) Z (omega (arith, length-piece m s k, length-bytes w (iterate (blank w f R) a k)))) refl)
+    let e = piece-written m (onward (blank w f R)) (given w) s a (given-length w m l) k (le-of-suc-le-suc h) in
+    rw (← blanks-absorb w f R a k, squeeze-written w (blank w f R) m a s (given-length w m l), e, reached-iterate w (blank w f R) m a s k)
+    (rw (length-take-le (length (piece m s k)) Z (omega (arith, length-piece m s k, length-bytes w (iterate (blank w f R) a k)))))
 
 -- a piece of n bytes of output
 pub drawn-piece : (w : ℕ) (f : List ℕ → List ℕ) (R : ℕ) (a : List ℕ) (n k : ℕ) → R - 1 ≤ 25 * (w / 8) → k < blocks R n

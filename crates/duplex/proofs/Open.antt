@@ -13,7 +13,7 @@ use Rattle.sponge.proofs.Turns.{reached, wrote, written, length-wrote, length-w
 use Rattle.duplex.specs.Duplex.{framed, duplexing}
 use Rattle.duplex.specs.Strings.{blocks, front, xored, absorbed, unmasked, opened}
 use Rattle.duplex.proofs.Strings.{length-xored, taken, absorbed-turns}
-use Rattle.duplex.proofs.Seal.{mask, mask-even}
+use Rattle.duplex.proofs.Seal.{mask, mask-length}
 
 -- the state after a turn that unmasks the piece p and takes it with the frame bit b
 abbrev pub taken-unmasked : ℕ → (List ℕ → List ℕ) → ℕ → ℕ → List ℕ → List ℕ → List ℕ
@@ -38,7 +38,7 @@ module _ (w : ℕ) (f : List ℕ → List ℕ) (R : ℕ) (a c : List ℕ) where
       let z : List ℕ = bytes w (reached (R - 1) (taken-unmasked w f R 1) c a k) in
       let X : List ℕ = xored (piece (R - 1) c k) z in
       let e : unmasked w f R a c (suc k) ≡ P ++ X = rw (i .1, i .0) in
-      let lp : length P ≡ k * (R - 1) = length-wrote (R - 1) (taken-unmasked w f R 1) (mask w) c a (mask-even w (R - 1)) k (omega (arith, suc-mul k (R - 1))) in
+      let lp : length P ≡ k * (R - 1) = length-wrote (R - 1) (taken-unmasked w f R 1) (mask w) c a (mask-length w (R - 1)) k (omega (arith, suc-mul k (R - 1))) in
       let lx : length X ≤ R - 1 = omega (arith, length-xored (piece (R - 1) c k) z, length-piece (R - 1) c k) in
       (e, rw (e, front-next R 1 P X k lp lx, absorb-more, ← i .0, i .1))
 
@@ -51,12 +51,12 @@ module _ (w : ℕ) (f : List ℕ → List ℕ) (R : ℕ) (a c : List ℕ) where
 
   pub length-opened : 1 < R → length (opened w f R a c) ≡ length c
   length-opened h =
-      ap length opened-written ∙ length-written (R - 1) (taken-unmasked w f R 1) (mask w) c a (mask-even w (R - 1)) (omega arith)
+      ap length opened-written ∙ length-written (R - 1) (taken-unmasked w f R 1) (mask w) c a (mask-length w (R - 1)) (omega arith)
 
   -- a piece of the plaintext
   pub opening-piece : (k : ℕ) → k ≤ before (R - 1) (length c)
       → piece (R - 1) (opened w f R a c) k ≡ mask w (reached (R - 1) (taken-unmasked w f R 1) c a k) (piece (R - 1) c k)
-  opening-piece k h = rw opened-written (piece-written (R - 1) (taken-unmasked w f R 1) (mask w) c a (mask-even w (R - 1)) k h)
+  opening-piece k h = rw opened-written (piece-written (R - 1) (taken-unmasked w f R 1) (mask w) c a (mask-length w (R - 1)) k h)
 
   -- opening goes through the states that absorbing the plaintext goes through
   pub opening-reached : (k : ℕ) → k ≤ before (R - 1) (length c)

@@ -15,8 +15,8 @@ use Rattle.duplex.proofs.Strings.{length-xored, taken}
 abbrev pub mask : ℕ → List ℕ → List ℕ → List ℕ
 mask w st p = xored p (bytes w st)
 
-pub mask-even : (w m : ℕ) (st p : List ℕ) → length p ≤ m → length (mask w st p) ≡ length p
-mask-even w m st p h = length-xored p (bytes w st)
+pub mask-length : (w m : ℕ) (st p : List ℕ) → length p ≤ m → length (mask w st p) ≡ length p
+mask-length w m st p h = length-xored p (bytes w st)
 
 module _ (w : ℕ) (f : List ℕ → List ℕ) (R : ℕ) (a b : List ℕ) where
   masked-is : (k : ℕ) → masked w f R a b k ≡ wrote (R - 1) (taken w f R 1) (mask w) b a k
@@ -30,9 +30,9 @@ module _ (w : ℕ) (f : List ℕ → List ℕ) (R : ℕ) (a b : List ℕ) where
 
   pub length-sealed : 1 < R → length (sealed w f R a b) ≡ length b
   length-sealed h =
-      ap length sealed-written ∙ length-written (R - 1) (taken w f R 1) (mask w) b a (mask-even w (R - 1)) (omega arith)
+      ap length sealed-written ∙ length-written (R - 1) (taken w f R 1) (mask w) b a (mask-length w (R - 1)) (omega arith)
 
   -- a piece of the ciphertext
   pub sealing-piece : (k : ℕ) → k ≤ before (R - 1) (length b)
       → piece (R - 1) (sealed w f R a b) k ≡ mask w (reached (R - 1) (taken w f R 1) b a k) (piece (R - 1) b k)
-  sealing-piece k h = rw sealed-written (piece-written (R - 1) (taken w f R 1) (mask w) b a (mask-even w (R - 1)) k h)
+  sealing-piece k h = rw sealed-written (piece-written (R - 1) (taken w f R 1) (mask w) b a (mask-length w (R - 1)) k h)

@@ -1,5 +1,5 @@
 -- Padding: a padded piece's length and bytes.
-use mathlib.Core.Path.{_≡_, refl, sym, ap, _∙_}
+use mathlib.Core.Path.{_≡_, refl, sym, _∙_}
 use mathlib.Core.List.{List, [], _∷_, _++_}
 use Prim.Native.Nat.{ℕ, zero, suc, _+_, _-_, _<_}
 use native.Mathlib.Nat.{zero-add, not-suc-le-zero}
@@ -49,7 +49,5 @@ module _ (R s : ℕ) (p : List ℕ) (h : length p < R) where
   padded-last =
       let m : ℕ = R - 1 - length p in
       let e : length p + m ≡ R - 1 = omega arith in
-      ap (λ (i : ℕ). getD (p ++ tail s m) i 0) (sym e)
-      ∙ getD-append-add p (tail s m) m 0
-      ∙ tail-last s m
-      ∙ ap (λ (x : ℕ). x + 128) (sym (getD-append-add p (s ∷ []) m 0) ∙ ap (λ (i : ℕ). getD (p ++ (s ∷ [])) i 0) e)
+      let q : getD (p ++ tail s m) (length p + m) 0 ≡ getD (p ++ (s ∷ [])) (length p + m) 0 + 128 = rw (getD-append-add, getD-append-add) (tail-last s m) in
+      rw e at q

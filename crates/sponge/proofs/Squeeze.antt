@@ -34,8 +34,8 @@ take-min (suc i) zero l = rw zero-min
 take-min (suc i) (suc m) [] = sym (take-nil (min (suc m) (suc i)))
 take-min (suc i) (suc m) (x ∷ l) = rw suc-min-suc (ap (λ (t : List ℕ). x ∷ t) (take-min i m l))
 
-pub given-even : (w m : ℕ) → m ≤ 25 * (w / 8) → (st p : List ℕ) → length p ≤ m → length (given w st p) ≡ length p
-given-even w m v st p h = length-take-le (length p) (bytes w st) (omega (arith, length-bytes w st))
+pub given-length : (w m : ℕ) → m ≤ 25 * (w / 8) → (st p : List ℕ) → length p ≤ m → length (given w st p) ≡ length p
+given-length w m v st p h = length-take-le (length p) (bytes w st) (omega (arith, length-bytes w st))
 
 -- the loop stands at `at`, with the state st, and out, which was s, is filled so far
 abbrev pub Squeezed : ℕ → (List ℕ → List ℕ) → ℕ → List ℕ → List ℕ → ℕ → List ℕ → List ℕ → Type 0
@@ -57,12 +57,12 @@ module _ (w : ℕ) (next : List ℕ → List ℕ) (m : ℕ) (a s : List ℕ) whe
   pub squeeze-written : ((st p : List ℕ) → length p ≤ m → length (given w st p) ≡ length p)
       → squeeze w next m a (length s) ≡ written m (onward next) (given w) s a
   unfolding squeeze stream wrote written
-  squeeze-written even =
+  squeeze-written as-long =
       let k : ℕ = before m (length s) in
       let S : List ℕ = stream w next m a k in
       let Z : List ℕ = bytes w (iterate next a k) in
       let low : k * m ≤ length s = omega (arith, before-low m (length s)) in
-      let l : length S ≡ k * m = rw (← wrote-stream k low) (length-wrote m (onward next) (given w) s a even k low) in
+      let l : length S ≡ k * m = rw (← wrote-stream k low) (length-wrote m (onward next) (given w) s a as-long k low) in
       let e : length s ≡ length S + (length s - k * m) = omega arith in
       ap (λ (z : ℕ). take z (S ++ take m Z)) e ∙ take-append-add S (take m Z) (length s - k * m)
       ∙ rw (wrote-stream k low, reached-iterate k, length-piece, take-min)
@@ -77,7 +77,7 @@ module _ (w : ℕ) (next : List ℕ → List ℕ) (m : ℕ) (a s : List ℕ) whe
     pub squeezed-last : (X : List ℕ) → X ≡ take (length (take (length out - at) (drop at out))) (bytes w st)
         → take at out ++ (X ++ drop (length out - at) (drop at out)) ≡ squeeze w next m a (length s)
     squeezed-last X x =
-        rw (squeeze-written (r .even), l)
+        rw (squeeze-written (r .as-long), l)
         (whole _ _ s (length s) (wrote-last m _ _ s a s at st out X r b (omega arith) (x ∙ rw (same-room (length out - at) at out s l, l))) (le-refl (length s)))
 
     -- the state that it leaves
@@ -88,5 +88,5 @@ module _ (w : ℕ) (next : List ℕ → List ℕ) (m : ℕ) (a s : List ℕ) whe
 pub length-squeeze : (w : ℕ) (next : List ℕ → List ℕ) (m : ℕ) (a : List ℕ) (n : ℕ) → 0 < m → m ≤ 25 * (w / 8) → length (squeeze w next m a n) ≡ n
 length-squeeze w next m a n p v =
     let s : List ℕ = replicate n 0 in
-    let even = given-even w m v in
-    rw (length-replicate {A = ℕ} n 0) at (ap length (squeeze-written w next m a s even) ∙ length-written m (onward next) (given w) s a even p)
+    let as-long = given-length w m v in
+    rw (length-replicate {A = ℕ} n 0) at (ap length (squeeze-written w next m a s as-long) ∙ length-written m (onward next) (given w) s a as-long p)

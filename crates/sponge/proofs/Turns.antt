@@ -73,14 +73,14 @@ module _ (m : ℕ) (N O : List ℕ → List ℕ → List ℕ) (s a : List ℕ) w
 
   -- the loop stands at `at`, with the state st, and out held d
   pub record Wrote (d : List ℕ) (at : ℕ) (st out : List ℕ) : Type 0 where
-    pub even : (st p : List ℕ) → length p ≤ m → length (O st p) ≡ length p
+    pub as-long : (st p : List ℕ) → length p ≤ m → length (O st p) ≡ length p
     pub ran : Ran m N s a at st
     pub out-is : out ≡ wrote (ran .k) ++ drop at d
 
-  module _ (even : (st p : List ℕ) → length p ≤ m → length (O st p) ≡ length p) where
+  module _ (as-long : (st p : List ℕ) → length p ≤ m → length (O st p) ≡ length p) where
     length-more : (k : ℕ) → length (wrote (suc k)) ≡ length (wrote k) + min m (length s - k * m)
     unfolding wrote
-    length-more k = rw (length-append, even _ (piece m s k) (omega (arith, length-piece m s k)), length-piece)
+    length-more k = rw (length-append, as-long _ (piece m s k) (omega (arith, length-piece m s k)), length-piece)
 
     pub length-wrote : (k : ℕ) → k * m ≤ length s → length (wrote k) ≡ k * m
     unfolding wrote
@@ -98,7 +98,7 @@ module _ (m : ℕ) (N O : List ℕ → List ℕ → List ℕ) (s a : List ℕ) w
     piece-wrote zero j h b = absurd (not-suc-le-zero h)
     piece-wrote (suc n) j h b =
         let l : length (wrote n) ≡ n * m = length-wrote n (omega (arith, suc-mul n m)) in
-        ⊎-elim (λ e. rw e (piece-end m (wrote n) _ n l (omega (arith, length-piece m s n, even (reached m N s a n) (piece m s n) (omega (arith, length-piece m s n))))))
+        ⊎-elim (λ e. rw e (piece-end m (wrote n) _ n l (omega (arith, length-piece m s n, as-long (reached m N s a n) (piece m s n) (omega (arith, length-piece m s n))))))
         (λ q. piece-front m (wrote n) _ j (omega (arith, mul-le-mul-right m q)) ∙ piece-wrote n j q (omega (arith, suc-mul n m)))
         (eq-or-lt-of-le (le-of-suc-le-suc h))
 
@@ -111,7 +111,7 @@ module _ (m : ℕ) (N O : List ℕ → List ℕ → List ℕ) (s a : List ℕ) w
 
     pub wrote-none : 0 < m → (d : List ℕ) → Wrote d 0 a d
     unfolding wrote ran-none
-    wrote-none p d = record { even = even; ran = ran-none m N s a p; out-is = refl }
+    wrote-none p d = record { as-long = as-long; ran = ran-none m N s a p; out-is = refl }
 
   pub wrote-more : (d : List ℕ) (at e : ℕ) (st st′ out X : List ℕ) → Wrote d at st out → e ≡ at + m → at ≤ length s - 1
       → st′ ≡ N st (take (e - at) (drop at s)) → X ≡ O st (take (e - at) (drop at s))
@@ -120,10 +120,10 @@ module _ (m : ℕ) (N O : List ℕ → List ℕ → List ℕ) (s a : List ℕ) w
   wrote-more d at e st st′ out X r h b t x =
       let q = r .ran in
       record {
-        even = r .even;
+        as-long = r .as-long;
         ran = ran-more m N s a at e st st′ q h t;
         out-is =
-            laid (wrote (q .k)) X d out at (e - at) e (r .out-is) (omega (arith, length-wrote (r .even) (q .k) (omega arith))) (omega arith)
+            laid (wrote (q .k)) X d out at (e - at) e (r .out-is) (omega (arith, length-wrote (r .as-long) (q .k) (omega arith))) (omega arith)
             ∙ rw (x, piece-mid m s (q .k) at e (q .at-is) h, q .st-is);
       }
 
@@ -132,5 +132,5 @@ module _ (m : ℕ) (N O : List ℕ → List ℕ → List ℕ) (s a : List ℕ) w
   unfolding wrote written
   wrote-last d at st out X r b l x =
       let q = r .ran in
-      laid (wrote (q .k)) X d out at (length s - at) (length s) (r .out-is) (omega (arith, length-wrote (r .even) (q .k) (omega arith))) (omega arith)
+      laid (wrote (q .k)) X d out at (length s - at) (length s) (r .out-is) (omega (arith, length-wrote (r .as-long) (q .k) (omega arith))) (omega arith)
       ∙ rw (x, piece-last m s (q .k) at (q .at-is) l, q .st-is, before-is m (length s) (q .k) at (q .room) (q .at-is) b l)

@@ -5,7 +5,7 @@ use Prim.Native.Nat.{_≤_, _-_}
 use lib.ListN.{length}
 use Rattle.keccak.specs.Rounds.{f1600}
 use Rattle.sponge.proofs.Turns.{wrote-none}
-use Rattle.sponge.proofs.Squeeze.{given-even, Squeezed, squeezed-more, squeezed-last, squeezed-state}
+use Rattle.sponge.proofs.Squeeze.{given-length, Squeezed, squeezed-more, squeezed-last, squeezed-state}
 use Rattle.duplex.specs.Duplex.{blank, drawn, after}
 use Rattle.duplex.proofs.drawn_into.Statement.{statement}
 use Rattle.duplex.proofs.drawn_into.Tie as tie
@@ -17,7 +17,7 @@ abbrev μ-loop : tie.MeasureT-loop
 μ-loop rate out₀ most st₀ at₀ out st at = length out₀ - at
 
 loop-holds : tie.Need-loop-holds Inv-loop μ-loop
-loop-holds c = (search needs, search needs, search needs, wrote-none _ _ _ _ _ (given-even _ _ (search needs)) (search needs) _)
+loop-holds c = (search needs, search needs, search needs, wrote-none _ _ _ _ _ (given-length _ _ (search needs)) (search needs) _)
 
 loop-again : tie.Need-loop-again Inv-loop μ-loop
 loop-again c = (search needs, search needs, search needs, search (needs, squeezed-more))

@@ -5,7 +5,7 @@ use Prim.Native.Nat.{_≤_, _-_}
 use lib.ListN.{length}
 use Rattle.keccak.specs.Rounds.{f1600}
 use Rattle.sponge.proofs.Turns.{ran-last, Wrote, wrote-none, wrote-more, wrote-last}
-use Rattle.duplex.proofs.Seal.{mask, mask-even}
+use Rattle.duplex.proofs.Seal.{mask, mask-length}
 use Rattle.duplex.proofs.Open.{taken-unmasked, opened-written, opened-turns}
 use Rattle.duplex.proofs.opened_into.Statement.{statement}
 use Rattle.duplex.proofs.opened_into.Tie as tie
@@ -17,7 +17,7 @@ abbrev μ-loop : tie.MeasureT-loop
 μ-loop cipher rate out₀ most st₀ at₀ out st at = length cipher - at
 
 loop-holds : tie.Need-loop-holds Inv-loop μ-loop
-loop-holds c = (search needs, search needs, search needs, wrote-none _ _ _ _ _ (mask-even _ _) (search needs) _)
+loop-holds c = (search needs, search needs, search needs, wrote-none _ _ _ _ _ (mask-length _ _) (search needs) _)
 
 loop-again : tie.Need-loop-again Inv-loop μ-loop
 loop-again c =

@@ -6,7 +6,7 @@ use lib.ListN.{length}
 use Rattle.keccak.specs.Rounds.{f1600}
 use Rattle.sponge.proofs.Turns.{Wrote, wrote-none, wrote-more, wrote-last}
 use Rattle.duplex.proofs.Strings.{taken, absorbed-last}
-use Rattle.duplex.proofs.Seal.{mask, mask-even, sealed-written}
+use Rattle.duplex.proofs.Seal.{mask, mask-length, sealed-written}
 use Rattle.duplex.proofs.sealed_into.Statement.{statement}
 use Rattle.duplex.proofs.sealed_into.Tie as tie
 
@@ -17,7 +17,7 @@ abbrev μ-loop : tie.MeasureT-loop
 μ-loop body rate out₀ most st₀ at₀ out st at = length body - at
 
 loop-holds : tie.Need-loop-holds Inv-loop μ-loop
-loop-holds c = (search needs, search needs, search needs, wrote-none _ _ _ _ _ (mask-even _ _) (search needs) _)
+loop-holds c = (search needs, search needs, search needs, wrote-none _ _ _ _ _ (mask-length _ _) (search needs) _)
 
 loop-again : tie.Need-loop-again Inv-loop μ-loop
 loop-again c = (search needs, search needs, search needs, search (needs, wrote-more))
