@@ -2,11 +2,13 @@
 use mathlib.Core.Path.{_≡_, refl, sym, ap, _∙_}
 use mathlib.Core.List.{List, [], _++_}
 use mathlib.Core.Bool.{Bool, true, false}
-use Prim.Native.Nat.{ℕ, zero, suc, _≤_}
+use Prim.Native.Nat.{ℕ, _≤_}
 use native.Mathlib.Omega.{arith}
 use lib.Dec.{eqb}
 use lib.ListN.{length, take, drop}
 use borrow.Author.Tests.{eq-eqb, ne-eqb}
+use Rattle.refusal.specs.Rows.{by}
+use Rattle.refusal.proofs.Rows.{kept}
 use Rattle.spongewrap.specs.Desk.{desk}
 use Rattle.spongewrap.specs.Sessions as sessions
 use Rattle.spongewrap.specs.Sessions.{opens, wraps, unwraps}
@@ -14,18 +16,9 @@ use Rattle.spongewrap.specs.declared.Answer.{Answer}
 use Rattle.spongewrap.specs.declared.Session.{Session}
 use Rattle.spongewrap.proofs.Theorems as theorems
 use Rattle.image.specs.Image.{imageLength, imageOf, sessionOf}
-use Rattle.image.specs.Calls.{Seen, seen, kept, answered, whole, opensImage, wrapsImage, unwrapsImage}
+use Rattle.image.specs.Calls.{Seen, seen, overImage, whole, opensImage, wrapsImage, unwrapsImage}
 
 -- ---- for the proofs of the calls
-
-pub kept-refused : (n : ℕ) (i : List ℕ) (s : Session) → (n ≡ 0 → ⊥) → i ≡ kept n i s
-unfolding kept
-kept-refused zero i s d = absurd (d refl)
-kept-refused (suc n) i s d = refl
-
-pub kept-accepted : (n : ℕ) (i i′ : List ℕ) (s : Session) → n ≡ 0 → i′ ≡ imageOf s → i′ ≡ kept n i s
-unfolding kept
-kept-accepted n i i′ s z e = rw z e
 
 module _ (i o : List ℕ) (w : sessions.Seen) where
   pub other-length : (length i ≡ imageLength → ⊥) → seen 6 i o ≡ whole (eqb (length i) imageLength) i o w
@@ -33,22 +26,22 @@ module _ (i o : List ℕ) (w : sessions.Seen) where
   other-length h = rw (ne-eqb (length i) imageLength h)
 
   called : length i ≡ imageLength → (a : Answer) (o′ : List ℕ) → sessions.seen a o′ ≡ w → (n : ℕ) (i′ : List ℕ)
-      → n ≡ a .number → i′ ≡ kept (a .number) i (a .session) → seen n i′ o′ ≡ whole (eqb (length i) imageLength) i o w
+      → n ≡ a .number → i′ ≡ by (a .number) i (imageOf (a .session)) → seen n i′ o′ ≡ whole (eqb (length i) imageLength) i o w
   unfolding whole
   called h a o′ e n i′ f g = rw (eq-eqb (length i) imageLength h, ← e, f, g)
 
 pub opened-is : (i i′ : List ℕ) (n : ℕ) (a : Answer) (key : List ℕ) (R t : ℕ) → length i ≡ imageLength → a ≡ opens desk key R t
-    → (n ≡ a .number) × (i′ ≡ kept (a .number) i (a .session)) → seen n i′ [] ≡ opensImage key R t i
+    → (n ≡ a .number) × (i′ ≡ by (a .number) i (imageOf (a .session))) → seen n i′ [] ≡ opensImage key R t i
 unfolding opensImage
 opened-is i i′ n a key R t h e f = called i [] _ h a [] (rw e) n i′ (f .0) (f .1)
 
 pub wrapped-is : (i i′ : List ℕ) (n : ℕ) (a : Answer) (s : Session) (k b o o′ : List ℕ) → length i ≡ imageLength → s ≡ sessionOf i
-    → sessions.seen a o′ ≡ wraps desk s k b o → (n ≡ a .number) × (i′ ≡ kept (a .number) i (a .session)) → seen n i′ o′ ≡ wrapsImage i k b o
+    → sessions.seen a o′ ≡ wraps desk s k b o → (n ≡ a .number) × (i′ ≡ by (a .number) i (imageOf (a .session))) → seen n i′ o′ ≡ wrapsImage i k b o
 unfolding wrapsImage
 wrapped-is i i′ n a s k b o o′ h z e f = called i o _ h a o′ (e ∙ rw z) n i′ (f .0) (f .1)
 
 pub unwrapped-is : (i i′ : List ℕ) (n : ℕ) (a : Answer) (s : Session) (k c t o o′ : List ℕ) → length i ≡ imageLength → s ≡ sessionOf i
-    → sessions.seen a o′ ≡ unwraps desk s k c t o → (n ≡ a .number) × (i′ ≡ kept (a .number) i (a .session)) → seen n i′ o′ ≡ unwrapsImage i k c t o
+    → sessions.seen a o′ ≡ unwraps desk s k c t o → (n ≡ a .number) × (i′ ≡ by (a .number) i (imageOf (a .session))) → seen n i′ o′ ≡ unwrapsImage i k c t o
 unfolding unwrapsImage
 unwrapped-is i i′ n a s k c t o o′ h z e f = called i o _ h a o′ (e ∙ rw z) n i′ (f .0) (f .1)
 
@@ -61,7 +54,7 @@ pub record Kept (i o : List ℕ) (v : Seen) : Type 0 where
 whole-kept : (t : Bool) (i o : List ℕ) (w : sessions.Seen) → ((w .answer .number ≡ 0 → ⊥) → w .out ≡ o) → (whole t i o w .number ≡ 0 → ⊥) → Kept i o (whole t i o w)
 unfolding whole
 whole-kept false i o w k d = record { image = refl; out = refl }
-whole-kept true i o w k d = record { image = sym (kept-refused (w .answer .number) i (w .answer .session) d); out = k d }
+whole-kept true i o w k d = record { image = kept (w .answer .number) i (imageOf (w .answer .session)) d; out = k d }
 
 pub open-kept : (key : List ℕ) (R t : ℕ) (i : List ℕ) → (opensImage key R t i .number ≡ 0 → ⊥) → Kept i [] (opensImage key R t i)
 unfolding opensImage
@@ -86,7 +79,7 @@ eights-alike i o h c t h′ c′ t′ = go (eqb (length i) imageLength)
     go : (y : Bool) → whole y i o (unwraps desk (sessionOf i) h c t o) .number ≡ 8 → whole y i o (unwraps desk (sessionOf i) h′ c′ t′ o) .number ≡ 8
         → whole y i o (unwraps desk (sessionOf i) h c t o) ≡ whole y i o (unwraps desk (sessionOf i) h′ c′ t′ o)
     go false e f = refl
-    go true e f = ap (answered i) (theorems.eights-alike desk (sessionOf i) o h c t h′ c′ t′ e f)
+    go true e f = ap (overImage i) (theorems.eights-alike desk (sessionOf i) o h c t h′ c′ t′ e f)
 
 -- an accepted call was handed a whole image
 pub was-whole : (t : Bool) (i o : List ℕ) (w : sessions.Seen) → whole t i o w .number ≡ 0 → t ≡ true
@@ -98,7 +91,7 @@ was-whole true i o w e = refl
 pub wrap-unwrap : (i h b o o′ : List ℕ) → wrapsImage i h b o .number ≡ 0 → length b ≤ length o′
     → unwrapsImage i h (take (length b) (wrapsImage i h b o .out)) (take (sessionOf i .tag) (drop (length b) (wrapsImage i h b o .out))) o′
     ≡ seen 0 (wrapsImage i h b o .image) (b ++ drop (length b) o′)
-unfolding wrapsImage unwrapsImage whole
+unfolding wrapsImage unwrapsImage whole by
 wrap-unwrap i h b o o′ e l =
     let q = was-whole (eqb (length i) imageLength) i o (wraps desk (sessionOf i) h b o) e in
     let n = rw q at e in

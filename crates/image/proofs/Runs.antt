@@ -6,6 +6,8 @@ use native.Mathlib.Omega.{arith}
 use lib.Dec.{eqb}
 use lib.ListN.{length, take, drop}
 use borrow.Author.Tests.{eq-eqb}
+use Rattle.refusal.specs.Rows.{by}
+use Rattle.refusal.proofs.Rows.{made}
 use Rattle.spongewrap.specs.Desk.{desk}
 use Rattle.spongewrap.specs.Sessions as sessions
 use Rattle.spongewrap.specs.Sessions.{opens, wraps, unwraps}
@@ -16,17 +18,17 @@ use Rattle.spongewrap.proofs.Theorems.{wrap-kept, unwrap-kept}
 use Rattle.spongewrap.proofs.Histories.{history-tells}
 use Rattle.spongewrap.proofs.ComesBack.{same-history}
 use Rattle.image.specs.Image.{imageLength, imageOf, sessionOf}
-use Rattle.image.specs.Calls.{Seen, seen, kept, whole, opensImage, wrapsImage, unwrapsImage}
-use Rattle.image.specs.Runs.{callsImage, imageAfter, pairWith, acceptedImage, OfBytes, AllHanded}
+use Rattle.image.specs.Calls.{Seen, seen, whole, opensImage, wrapsImage, unwrapsImage}
+use Rattle.image.specs.Runs.{callsImage, imageAfter, acceptedImage, OfBytes, AllHanded}
 use Rattle.image.proofs.Image.{Held, length-image, session-image}
-use Rattle.image.proofs.Calls.{kept-accepted, was-whole, wrap-unwrap}
+use Rattle.image.proofs.Calls.{was-whole, wrap-unwrap}
 use Rattle.image.proofs.Held.{open-held, call-held}
 
 -- ---- one call
 
 -- a refusal gives back the session s, so that in either case the image is that of the session s′ that a call gave
-kept-image : (n : ℕ) (s s′ : Session) → ((n ≡ 0 → ⊥) → s′ ≡ s) → kept n (imageOf s) s′ ≡ imageOf s′
-unfolding kept
+kept-image : (n : ℕ) (s s′ : Session) → ((n ≡ 0 → ⊥) → s′ ≡ s) → by n (imageOf s) (imageOf s′) ≡ imageOf s′
+unfolding by
 kept-image zero s s′ h = refl
 kept-image (suc n) s s′ h = ap imageOf (sym (h (λ e. omega arith)))
 
@@ -46,11 +48,6 @@ module _ (s : Session) (e : Held s) where
   call-image (wrapping h b o) = over-image o (λ r. wraps desk r h b o) (λ d. wrap-kept desk s h b o d .session)
   call-image (unwrapping h c t o) = over-image o (λ r. unwraps desk r h c t o) (λ d. unwrap-kept desk s h c t o d .session)
 
-pair-is : (s : Session) (c : Call) → pairWith (s .tag) c (answered desk s c .out) ≡ pairOf desk s c
-unfolding pairWith answered pairOf
-pair-is s (wrapping h b o) = refl
-pair-is s (unwrapping h c t o) = refl
-
 -- ---- a run
 
 record Run (s : Session) (cs : List Call) : Type 0 where
@@ -66,7 +63,7 @@ run s e (c ∷ cs) h =
     record {
       held = i .held;
       image = rw (call-image s e c) (i .image);
-      pairs = rw (call-image s e c, session-image s e, pair-is s c, i .pairs);
+      pairs = rw (call-image s e c, session-image s e, i .pairs);
     }
 
 -- ---- from an open
@@ -89,7 +86,7 @@ module _ (key : List ℕ) (R t : ℕ) where
       opened =
           let q = was-whole (eqb (length i) imageLength) i [] (sessions.seen (opens desk key R t) []) e in
           let n = rw q at e in
-          (n, rw q (sym (kept-accepted (opens desk key R t .number) i (imageOf begun) begun n refl)))
+          (n, rw q (made (opens desk key R t .number) i (imageOf begun) n))
 
       module _ (cs : List Call) (h : AllHanded cs) where
         ran : Run begun cs

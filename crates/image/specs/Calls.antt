@@ -1,11 +1,11 @@
 -- The calls of a session that travels as an image (document 01, "Desk surface"): what each answers and leaves, for every input.
-use Prim.Native.Nat.{ℕ, zero, suc}
+use Prim.Native.Nat.{ℕ}
 use mathlib.Core.List.{List, []}
 use mathlib.Core.Bool.{Bool, true, false}
 use lib.Dec.{eqb}
 use lib.ListN.{length}
+use Rattle.refusal.specs.Rows.{by}
 use Rattle.spongewrap.specs.Desk.{desk}
-use Rattle.spongewrap.specs.declared.Session.{Session}
 use Rattle.spongewrap.specs.Sessions as sessions
 use Rattle.spongewrap.specs.Sessions.{opens, wraps, unwraps}
 use Rattle.image.specs.Image.{imageLength, imageOf, sessionOf}
@@ -19,18 +19,14 @@ pub record Seen : Type 0 where
 abbrev pub seen : ℕ → List ℕ → List ℕ → Seen
 seen n i o = record { number = n; image = i; out = o }
 
--- the image after a call with that number: the new session's on success, else as it was
-unfoldable pub kept : ℕ → List ℕ → Session → List ℕ
-kept zero i s = imageOf s
-kept (suc n) i s = i
-
-abbrev pub answered : List ℕ → sessions.Seen → Seen
-answered i w = seen (w .answer .number) (kept (w .answer .number) i (w .answer .session)) (w .out)
+-- so of the call w on its session: on success the image is the new session's, else as it was
+abbrev pub overImage : List ℕ → sessions.Seen → Seen
+overImage i w = seen (w .answer .number) (by (w .answer .number) i (imageOf (w .answer .session))) (w .out)
 
 -- an image of another length is refused 6 before all else
 unfoldable pub whole : Bool → List ℕ → List ℕ → sessions.Seen → Seen
 whole false i o w = seen 6 i o
-whole true i o w = answered i w
+whole true i o w = overImage i w
 
 unfoldable pub opensImage : List ℕ → ℕ → ℕ → List ℕ → Seen
 opensImage key R t i = whole (eqb (length i) imageLength) i [] (sessions.seen (opens desk key R t) [])

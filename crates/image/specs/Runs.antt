@@ -3,7 +3,7 @@ use Prim.Native.Nat.{ℕ, _<_}
 use mathlib.Core.List.{List, [], _∷_, _++_}
 use lib.ListN.{length, getD, take, drop}
 use Rattle.refusal.specs.Rows.{by}
-use Rattle.spongewrap.specs.History.{Call, Pair}
+use Rattle.spongewrap.specs.History.{Call, Pair, pairWith}
 use Rattle.spongewrap.specs.History.Call.{wrapping, unwrapping}
 use Rattle.image.specs.Image.{sessionOf}
 use Rattle.image.specs.Calls.{Seen, wrapsImage, unwrapsImage}
@@ -16,11 +16,6 @@ callsImage i (unwrapping h c t o) = unwrapsImage i h c t o
 unfoldable pub imageAfter : List ℕ → List Call → List ℕ
 imageAfter i [] = i
 imageAfter i (c ∷ cs) = imageAfter (callsImage i c .image) cs
-
--- the pair of a call that left x in its output, with a tag of t bytes
-unfoldable pub pairWith : ℕ → Call → List ℕ → Pair
-pairWith t (wrapping h b o) x = record { header = h; body = b; cipher = take (length b) x; tag = take t (drop (length b) x) }
-pairWith t (unwrapping h c u o) x = record { header = h; body = take (length c) x; cipher = c; tag = u }
 
 -- the pairs that were accepted
 unfoldable pub acceptedImage : List ℕ → List Call → List Pair

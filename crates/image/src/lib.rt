@@ -2,8 +2,9 @@
 ghost use mathlib.Core.Path.{_≡_};
 ghost use mathlib.Core.List.{[]};
 ghost use lib.ListN.{length};
+ghost use Rattle.refusal.specs.Rows.{by};
 ghost use Rattle.image.specs.Image.{imageLength, imageOf, sessionOf};
-ghost use Rattle.image.specs.Calls.{seen, kept, opensImage, wrapsImage, unwrapsImage};
+ghost use Rattle.image.specs.Calls.{seen, opensImage, wrapsImage, unwrapsImage};
 use spongewrap::Answer;
 use spongewrap::Session;
 
@@ -48,9 +49,9 @@ pub fn put_session(s: Session, image: &mut [u8])
 }
 
 // A call's answer: on success the new session is laid over the image, and a refusal leaves it.
-fn settled(answer: Answer, image: &mut [u8]) -> u8
+fn store_answer(answer: Answer, image: &mut [u8]) -> u8
     requires { ⌜ length (now image) ≡ imageLength ⌝ }
-    ensures { λ r. ⌜ (r ≡ answer .number) × (now (image .exit) ≡ kept (answer .number) (now (image .entry)) (answer .session)) ⌝ }
+    ensures { λ r. ⌜ (r ≡ answer .number) × (now (image .exit) ≡ by (answer .number) (now (image .entry)) (imageOf (answer .session))) ⌝ }
 {
     let number = answer.number;
     if number != 0 {
@@ -68,7 +69,7 @@ pub fn open(key: &[u8], rate: u16, tag: u16, image: &mut [u8]) -> u8
     if image.len() != LENGTH {
         return refusal::NO_ROOM;
     }
-    settled(spongewrap::open(key, rate, tag), image)
+    store_answer(spongewrap::open(key, rate, tag), image)
 }
 
 // Seals a pair with the session that an image holds.
@@ -79,7 +80,7 @@ pub fn wrap(image: &mut [u8], header: &[u8], body: &[u8], out: &mut [u8]) -> u8
         return refusal::NO_ROOM;
     }
     let session = session_of(&image[..]);
-    settled(spongewrap::wrap(session, header, body, out), image)
+    store_answer(spongewrap::wrap(session, header, body, out), image)
 }
 
 // Opens a pair with the session that an image holds.
@@ -90,7 +91,7 @@ pub fn unwrap(image: &mut [u8], header: &[u8], cipher: &[u8], tag: &[u8], body: 
         return refusal::NO_ROOM;
     }
     let session = session_of(&image[..]);
-    settled(
+    store_answer(
         spongewrap::unwrap(session, header, cipher, tag, body),
         image,
     )

@@ -20,7 +20,7 @@ use Rattle.duplex.proofs.Masks.{sealed-piece, opened-piece}
 use Rattle.duplex.proofs.Draw.{after-blocks, drawn-piece}
 use Rattle.spongewrap.specs.SpongeWrap.{keyed, headed, bodied, ciphertext, tagged, left, plaintext}
 use Rattle.spongewrap.specs.Sessions.{none, fresh, opens, cost, advanced, next, sealing, tagOf, recovered, Seen}
-use Rattle.spongewrap.specs.History.{Call, answered, Pair, pairOf, after, accepted, blanks, pairBlocks, pairsBlocks, history, pairsCost, Whole, output, Output, Told}
+use Rattle.spongewrap.specs.History.{Call, answered, Pair, pairWith, pairOf, after, accepted, blanks, pairBlocks, pairsBlocks, history, pairsCost, Whole, output, Output, Told}
 use Rattle.spongewrap.specs.History.Call.{wrapping, unwrapping}
 use Rattle.spongewrap.specs.Kinds.{Kind}
 use Rattle.spongewrap.specs.declared.Session.{Session}
@@ -161,7 +161,7 @@ module _ (K : Kind) where
     call-kept (unwrapping h c u o) d = unwrap-kept K s h c u o d .session
 
     call-agrees : (c : Call) → answered K s c .answer .number ≡ 0 → Agrees R t (B ++ pairBlocks R t (pairOf K s c)) (n + 1) (answered K s c .answer .session)
-    unfolding answered pairOf
+    unfolding answered pairWith
     call-agrees (wrapping h b o) e = rw (ap (λ (v : Seen). v .answer .session) (wrapped-is K s h b o e)) (next-agrees _)
     call-agrees (unwrapping h c u o) e =
         rw (ap (λ (v : Seen). v .answer .session) (unwrapped-is K s h c u o e), unwrap-first K s h c u o e .first) (next-agrees _)
@@ -180,7 +180,7 @@ module _ (K : Kind) where
     recovered-is h c = rw (a .rate, a .lanes)
 
     call-output : (c : Call) → answered K s c .answer .number ≡ 0 → Output (K .w) (K .f) R t B (pairOf K s c)
-    unfolding answered pairOf
+    unfolding answered pairWith
     call-output (wrapping h b o) e =
         let r = wrap-fits K s (length h) (length b) (length o) (sym (wrap-number K s h b o) ∙ e) .0 .rate in
         wrap-output (K .w) (K .f) R B h b _ _ t (omega (arith, a .rate, r .most)) (mark-is K s h b o e ∙ tagOf-is h b)

@@ -31,16 +31,14 @@ pub record Pair : Type 0 where
   pub cipher : List ℕ
   pub tag : List ℕ
 
+-- of a call that left x in its output, with a tag of t bytes
+unfoldable pub pairWith : ℕ → Call → List ℕ → Pair
+pairWith t (wrapping h b o) x = record { header = h; body = b; cipher = take (length b) x; tag = take t (drop (length b) x) }
+pairWith t (unwrapping h c u o) x = record { header = h; body = take (length c) x; cipher = c; tag = u }
+
 -- what a call on the session s was handed and, at the front of its output, what it gave
-unfoldable pub pairOf : Kind → Session → Call → Pair
-pairOf K s (wrapping h b o) =
-    record {
-      header = h;
-      body = b;
-      cipher = take (length b) (wraps K s h b o .out);
-      tag = take (s .tag) (drop (length b) (wraps K s h b o .out));
-    }
-pairOf K s (unwrapping h c t o) = record { header = h; body = take (length c) (unwraps K s h c t o .out); cipher = c; tag = t }
+abbrev pub pairOf : Kind → Session → Call → Pair
+pairOf K s c = pairWith (s .tag) c (answered K s c .out)
 
 -- what the two ends of a pair have in common
 abbrev pub content : Pair → List ℕ × List ℕ
