@@ -31,7 +31,7 @@ use Rattle.bundle.proofs.Contents.{number-in, length-entry, stands, Sea
 use Rattle.bundle.proofs.Stores.{start-accepted, add-accepted, adds-is}
 use Rattle.bundle.proofs.Written.{Holds, ends, number-first, all-holds}
 
--- ---- refusals keep everything
+-- ---- what a table tells
 
 -- the session and the buffer that were handed over
 pub record Kept (s : Session) (d : List ℕ) (u : Seen) : Type 0 where
@@ -40,23 +40,6 @@ pub record Kept (s : Session) (d : List ℕ) (u : Seen) : Type 0 where
 
 settled-kept : (t : Told) (s s′ : Session) (d d′ : List ℕ) → (t .number ≡ 0 → ⊥) → Kept s d (settled t s d s′ d′)
 settled-kept t s s′ d d′ w = record { session = kept (t .number) s s′ w; buffer = kept (t .number) d d′ w }
-
--- A refused start gives back the session that it took and leaves every byte of the buffer.
-pub start-kept : (v : Version) (s : Session) (label d : List ℕ) → (starts v s label d .answer .number ≡ 0 → ⊥) → Kept s d (starts v s label d)
-unfolding starts
-start-kept v s label d w = settled-kept (startTable v s (length label) (length d)) s _ d _ w
-
--- A refused add gives back the session that it took and leaves every byte of the buffer.
-pub add-kept : (v : Version) (s : Session) (h b d : List ℕ) → (adds v s h b d .answer .number ≡ 0 → ⊥) → Kept s d (adds v s h b d)
-unfolding adds
-add-kept v s h b d w = settled-kept (addTable v s d (length h) (length b)) s _ d _ w
-
--- A refused opening gives back the session that it took and leaves every byte of the output.
-pub open-kept : (v : Version) (s : Session) (b : List ℕ) (place : ℕ) (o : List ℕ) → (opens v s b place o .answer .number ≡ 0 → ⊥) → Kept s o (opens v s b place o)
-unfolding opens
-open-kept v s b place o w = settled-kept (openTable v s b place (length o)) s _ o _ w
-
--- ---- the places of an opening
 
 -- a table that refuses does so at p, and answers no value
 abbrev At : ℕ → Told → Type 0
@@ -74,29 +57,6 @@ at-entry Short p q f w = refl
 at-entry Large p q f w = refl
 at-entry Past p q f w = refl
 
-open-at : (v : Version) (s : Session) (b : List ℕ) (place out : ℕ) → At place (openTable v s b place out)
-unfolding openTable
-open-at v s b place out =
-    at-place (first (own v s)) place _ (at-entry (entryAt v b place) place _ (at-place _ place _ (λ z. absurd (z refl))))
-
--- A refused opening carries the place that was asked for, and no next one; it gives session and output back.
-pub open-refused : (v : Version) (s : Session) (b : List ℕ) (place : ℕ) (o : List ℕ) → (opens v s b place o .answer .number ≡ 0 → ⊥)
-    → opens v s b place o ≡ seen (record { number = opens v s b place o .answer .number; place = place; next = 0; session = s }) o
-unfolding opens
-open-refused v s b place o w =
-    let t = openTable v s b place (length o) in
-    let e = open-at v s b place (length o) w in
-    let k = settled-kept t s (next desk s (headerAt b place) (bodyAt s b place)) o (bodyAt s b place ++ drop (length (bodyAt s b place)) o) w in
-    rw (k .session, k .buffer, ap (λ (u : Told). u .place) e, ap (λ (u : Told). getD (u .values) 0 0) e)
-
--- All refusals numbered 8 at one place are the same, whatever bundle was handed over and whichever byte differs.
-pub eights-alike : (v : Version) (s : Session) (place : ℕ) (o b b′ : List ℕ) → opens v s b place o .answer .number ≡ 8 → opens v s b′ place o .answer .number ≡ 8
-    → opens v s b place o ≡ opens v s b′ place o
-eights-alike v s place o b b′ e f =
-    open-refused v s b place o (λ z. omega arith) ∙ rw (e, ← f) (sym (open-refused v s b′ place o (λ z. omega arith)))
-
--- ---- the tag of an entry
-
 past-entry : (e : Entry) (p : ℕ) (q : Told) → (entryTold e p orElse q) .number ≡ 0 → q .number ≡ 0
 unfolding by
 past-entry (Whole h m n) p q e = e
@@ -104,41 +64,70 @@ past-entry Short p q e = absurd (omega arith)
 past-entry Large p q e = absurd (omega arith)
 past-entry Past p q e = absurd (omega arith)
 
--- An entry that opens has the tag that is recomputed over its very header and body, in the session that all earlier pairs left.
-pub opened-tag : (v : Version) (s : Session) (b : List ℕ) (place : ℕ) (o : List ℕ) → opens v s b place o .answer .number ≡ 0
-    → tagAt v b place ≡ tagOf desk s (headerAt b place) (bodyAt s b place)
-unfolding opens openTable bodyAt foreign
-opened-tag v s b place o e =
-    let p = through (first (own v s)) place _ e in
-    let q = through _ place (accepted (nextAt v b place ∷ [])) (past-entry (entryAt v b place) place _ (p .1)) in
-    let c = all-clear (lastRows v s b place (length o)) refl (q .0) in
-    same-eq _ _ (not-false _ (c .1 .0))
+module _ (v : Version) (s : Session) where
+  -- ---- refusals keep everything
 
--- So a header is covered by its tag: where two bundles open at one place under the same tag, the tags that are recomputed over
--- either header are equal, however the headers differ.
-pub header-covered : (v : Version) (s : Session) (place : ℕ) (o b b′ : List ℕ) → opens v s b place o .answer .number ≡ 0 → opens v s b′ place o .answer .number ≡ 0
-    → tagAt v b place ≡ tagAt v b′ place → tagOf desk s (headerAt b place) (bodyAt s b place) ≡ tagOf desk s (headerAt b′ place) (bodyAt s b′ place)
-header-covered v s place o b b′ e f t = sym (opened-tag v s b place o e) ∙ t ∙ opened-tag v s b′ place o f
+  -- A refused start gives back the session that it took and leaves every byte of the buffer.
+  pub start-kept : (label d : List ℕ) → (starts v s label d .answer .number ≡ 0 → ⊥) → Kept s d (starts v s label d)
+  unfolding starts
+  start-kept label d w = settled-kept (startTable v s (length label) (length d)) s _ d _ w
 
--- ---- what an add leaves
+  -- A refused add gives back the session that it took and leaves every byte of the buffer.
+  pub add-kept : (h b d : List ℕ) → (adds v s h b d .answer .number ≡ 0 → ⊥) → Kept s d (adds v s h b d)
+  unfolding adds
+  add-kept h b d w = settled-kept (addTable v s d (length h) (length b)) s _ d _ w
 
--- An accepted add writes the stated length and the new entry: all other bytes stand.
-pub others-stand : (v : Version) (s : Session) (h b d : List ℕ) (i : ℕ) → adds v s h b d .answer .number ≡ 0
-    → (i < 1) ⊎ ((5 ≤ i) × (i < endOf d)) ⊎ (endWith v d (length h) (length b) ≤ i) → getD (adds v s h b d .buffer) i 0 ≡ getD d i 0
-unfolding withEntry
-others-stand v s h b d i e w =
-    let a = add-accepted v s h b d e in
-    let n : ℕ = endWith v d (length h) (length b) - 5 in
-    let l = length-bytesOf 4 n in
-    let m = length-entry v s h b (a .ready) in
-    let x : List ℕ = sets d (endOf d) (entryOf s h b) in
-    rw (adds-is v s h b d a)
-    (⊎-elim
-    (λ (y : i < 1). getD-sets-before (bytesOf 4 n) x 1 i 0 y ∙ getD-sets-before (entryOf s h b) d (endOf d) i 0 (omega arith))
-    (⊎-elim
-    (λ (y : (5 ≤ i) × (i < endOf d)). getD-sets-after (bytesOf 4 n) x 1 i 0 (omega arith) ∙ getD-sets-before (entryOf s h b) d (endOf d) i 0 (y .1))
-    (λ (y : endWith v d (length h) (length b) ≤ i). getD-sets-after (bytesOf 4 n) x 1 i 0 (omega arith) ∙ getD-sets-after (entryOf s h b) d (endOf d) i 0 (omega arith)))
-    w)
+  open-at : (b : List ℕ) (place out : ℕ) → At place (openTable v s b place out)
+  unfolding openTable
+  open-at b place out =
+      at-place (first (own v s)) place _ (at-entry (entryAt v b place) place _ (at-place _ place _ (λ z. absurd (z refl))))
+
+  -- A refused opening gives back the session that it took and leaves every byte of the output; it carries the place that was asked
+  -- for, and no next one.
+  pub open-refused : (b : List ℕ) (place : ℕ) (o : List ℕ) → (opens v s b place o .answer .number ≡ 0 → ⊥)
+      → opens v s b place o ≡ seen (record { number = opens v s b place o .answer .number; place = place; next = 0; session = s }) o
+  unfolding opens
+  open-refused b place o w =
+      let e = open-at b place (length o) w in
+      let k = settled-kept (openTable v s b place (length o)) s (next desk s (headerAt b place) (bodyAt s b place)) o (bodyAt s b place ++ drop (length (bodyAt s b place)) o) w in
+      rw (k .session, k .buffer, ap (λ (u : Told). u .place) e, ap (λ (u : Told). getD (u .values) 0 0) e)
+
+  -- All refusals numbered 8 at one place are the same, whatever bundle was handed over and whichever byte differs.
+  pub eights-alike : (place : ℕ) (o b b′ : List ℕ) → opens v s b place o .answer .number ≡ 8 → opens v s b′ place o .answer .number ≡ 8
+      → opens v s b place o ≡ opens v s b′ place o
+  eights-alike place o b b′ e f = open-refused b place o (λ z. omega arith) ∙ rw (e, ← f) (sym (open-refused b′ place o (λ z. omega arith)))
+
+  -- ---- the tag of an entry
+
+  -- An entry that opens has the tag that is recomputed over its very header and body, in the session that all earlier pairs left.
+  pub opened-tag : (b : List ℕ) (place : ℕ) (o : List ℕ) → opens v s b place o .answer .number ≡ 0
+      → tagAt v b place ≡ tagOf desk s (headerAt b place) (bodyAt s b place)
+  unfolding opens openTable bodyAt foreign
+  opened-tag b place o e =
+      let p = through (first (own v s)) place _ e in
+      let q = through _ place (accepted (nextAt v b place ∷ [])) (past-entry (entryAt v b place) place _ (p .1)) in
+      let c = all-clear (lastRows v s b place (length o)) refl (q .0) in
+      same-eq _ _ (not-false _ (c .1 .0))
+
+  -- ---- what an add leaves
+
+  -- An accepted add writes the stated length and the new entry: all other bytes stand.
+  pub others-stand : (h b d : List ℕ) (i : ℕ) → adds v s h b d .answer .number ≡ 0
+      → (i < 1) ⊎ ((5 ≤ i) × (i < endOf d)) ⊎ (endWith v d (length h) (length b) ≤ i) → getD (adds v s h b d .buffer) i 0 ≡ getD d i 0
+  unfolding withEntry
+  others-stand h b d i e w =
+      let a = add-accepted v s h b d e in
+      let n : ℕ = endWith v d (length h) (length b) - 5 in
+      let l = length-bytesOf 4 n in
+      let m = length-entry v s h b (a .ready) in
+      let x : List ℕ = sets d (endOf d) (entryOf s h b) in
+      rw (adds-is v s h b d a)
+      (⊎-elim
+      (λ (y : i < 1). getD-sets-before (bytesOf 4 n) x 1 i 0 y ∙ getD-sets-before (entryOf s h b) d (endOf d) i 0 (omega arith))
+      (⊎-elim
+      (λ (y : (5 ≤ i) × (i < endOf d)). getD-sets-after (bytesOf 4 n) x 1 i 0 (omega arith) ∙ getD-sets-before (entryOf s h b) d (endOf d) i 0 (y .1))
+      (λ (y : endWith v d (length h) (length b) ≤ i). getD-sets-after (bytesOf 4 n) x 1 i 0 (omega arith) ∙ getD-sets-after (entryOf s h b) d (endOf d) i 0 (omega arith)))
+      w)
 
 -- ---- a bundle that was started, and added to pair by pair
 
