@@ -11,7 +11,7 @@ use borrow.Author.Tests.{lt-ltb, le-ltb, ltb-false, eq-eqb, ne-eqb}
 use denote.Enum.Declared.{tagOf}
 use Rattle.fields.specs.Numbers.{numberAt}
 use Rattle.refusal.specs.Rows.{by, pick}
-use Rattle.spongewrap.specs.Refusals.{longBody}
+use Rattle.spongewrap.specs.Refusals.{mostPairs, mostBody, longBody}
 use Rattle.bundle.proofs.Entry.{the-type}
 use Rattle.bundle.specs.declared.Entry.{Entry}
 use Rattle.bundle.specs.declared.Entry.the-variants.{Whole, Short, Large, Past}
@@ -29,19 +29,19 @@ module _ (v : Version) (b : List ℕ) (place : ℕ) where
   entry-short h = rw (lt-ltb (length b - place) 6 h)
 
   module _ (some : 6 ≤ length b - place) where
-    pub entry-large : 1048576 < bodyLength b place → Large ≡ entryAt v b place
+    pub entry-large : mostBody < bodyLength b place → Large ≡ entryAt v b place
     unfolding entryAt pick
-    entry-large h = rw (le-ltb (length b - place) 6 some, lt-ltb 1048576 (bodyLength b place) h)
+    entry-large h = rw (le-ltb (length b - place) 6 some, lt-ltb mostBody (bodyLength b place) h)
 
-    pub entry-past : bodyLength b place ≤ 1048576 → length b < nextAt v b place → Past ≡ entryAt v b place
+    pub entry-past : bodyLength b place ≤ mostBody → length b < nextAt v b place → Past ≡ entryAt v b place
     unfolding entryAt pick
     entry-past h l =
-        rw (le-ltb (length b - place) 6 some, le-ltb 1048576 (bodyLength b place) h, lt-ltb (length b) (nextAt v b place) l)
+        rw (le-ltb (length b - place) 6 some, le-ltb mostBody (bodyLength b place) h, lt-ltb (length b) (nextAt v b place) l)
 
 pub entry-whole : {v : Version} {b : List ℕ} {place h m n : ℕ} → WholeAt v b place h m n → Whole h m n ≡ entryAt v b place
 unfolding entryAt pick
 entry-whole {v} {b} {place} w =
-    rw (w .is-header, w .is-body, w .is-next, le-ltb (length b - place) 6 (omega arith), le-ltb 1048576 (bodyLength b place) (omega arith), le-ltb (length b) (nextAt v b place) (omega arith))
+    rw (w .is-header, w .is-body, w .is-next, le-ltb (length b - place) 6 (omega arith), le-ltb mostBody (bodyLength b place) (omega arith), le-ltb (length b) (nextAt v b place) (omega arith))
 
 -- what a whole entry tells
 unless : (t : Bool) (x e : Entry) (h m n : ℕ) → pick t x e ≡ Whole h m n → (x ≡ Whole h m n → ⊥) → (t ≡ false) × (e ≡ Whole h m n)
@@ -58,7 +58,7 @@ whole-at v b place h m n e =
     let eh : headerLength b place ≡ h = cc in
     let em : bodyLength b place ≡ m = cc in
     let en : nextAt v b place ≡ n = cc in
-    let l : bodyLength b place ≤ 1048576 = ltb-false 1048576 (bodyLength b place) (q .0) in
+    let l : bodyLength b place ≤ mostBody = ltb-false mostBody (bodyLength b place) (q .0) in
     let x : nextAt v b place ≤ length b = ltb-false (length b) (nextAt v b place) (r .0) in
     record { is-header = sym eh; is-body = sym em; is-next = sym en; small = omega arith; ends = omega arith }
 
@@ -91,28 +91,28 @@ entry-bad Past f place n p q g d en ep = rw (← g, en, ep)
 module _ (v : Version) (b : List ℕ) (place k : ℕ) where
   pub walk-end : length b ≤ place → entriesFrom v b place k ≡ last v b k
   unfolding entriesFrom walk pick
-  walk-end h = ended (65535 - k)
+  walk-end h = ended (mostPairs - k)
     where
       ended : (n : ℕ) → walk v n b place k ≡ last v b k
       ended zero = rw (le-ltb place (length b) h)
       ended (suc n) = rw (le-ltb place (length b) h)
 
   module _ (some : place < length b) where
-    pub walk-full : k ≡ 65535 → entriesFrom v b place k ≡ refused 7 place
+    pub walk-full : k ≡ mostPairs → entriesFrom v b place k ≡ refused 7 place
     unfolding entriesFrom walk pick
     walk-full e = rw (e, lt-ltb place (length b) some)
 
-    pub walk-on : k < 65535 → entriesFrom v b place k ≡ (entryTold (entryAt v b place) place orElse entriesFrom v b (nextAt v b place) (k + 1))
+    pub walk-on : k < mostPairs → entriesFrom v b place k ≡ (entryTold (entryAt v b place) place orElse entriesFrom v b (nextAt v b place) (k + 1))
     unfolding entriesFrom walk pick
     walk-on l =
-        let n : 65535 - k ≡ suc (65535 - (k + 1)) = omega arith in
+        let n : mostPairs - k ≡ suc (mostPairs - (k + 1)) = omega arith in
         rw (n, lt-ltb place (length b) some)
 
-    pub walk-bad : k < 65535 → (e : Entry) (n p : ℕ) → e ≡ entryAt v b place → (entryTold e place .number ≡ 0 → ⊥)
+    pub walk-bad : k < mostPairs → (e : Entry) (n p : ℕ) → e ≡ entryAt v b place → (entryTold e place .number ≡ 0 → ⊥)
         → n ≡ entryTold e place .number → p ≡ entryTold e place .place → refused n p ≡ entriesFrom v b place k
     walk-bad l e n p g d en ep = entry-bad e _ place n p _ g d en ep ∙ sym (walk-on l)
 
-    pub walk-next : k < 65535 → (h m n : ℕ) → entryAt v b place ≡ Whole h m n → entriesFrom v b place k ≡ entriesFrom v b n (k + 1)
+    pub walk-next : k < mostPairs → (h m n : ℕ) → entryAt v b place ≡ Whole h m n → entriesFrom v b place k ≡ entriesFrom v b n (k + 1)
     unfolding by
     walk-next l h m n e = walk-on l ∙ rw (e, whole-at v b place h m n e .is-next)
 

@@ -10,7 +10,7 @@ use lib.Dec.{ltb}
 use Rattle.fields.specs.Numbers.{numberAt, bytesOf}
 use Rattle.refusal.specs.Rows.{pick, outside}
 use Rattle.spongewrap.specs.Desk.{desk}
-use Rattle.spongewrap.specs.Refusals.{badSize, longBody}
+use Rattle.spongewrap.specs.Refusals.{mostBody, badSize, longBody}
 use Rattle.spongewrap.specs.Sessions.{sealing, tagOf}
 use Rattle.spongewrap.specs.declared.Session.{Session}
 use Rattle.bundle.specs.declared.Entry.{Entry}
@@ -73,7 +73,7 @@ pub record WholeAt (v : Version) (b : List ℕ) (place header body next : ℕ) :
   pub is-header : header ≡ headerLength b place
   pub is-body : body ≡ bodyLength b place
   pub is-next : next ≡ nextAt v b place
-  pub small : body ≤ 1048576
+  pub small : body ≤ mostBody
   pub ends : next ≤ length b
 
 -- ---- the entry rules

@@ -6,6 +6,7 @@ use lib.ListN.{length, getD}
 use lib.Dec.{eqb, ltb}
 use Rattle.fields.specs.Numbers.{numberAt}
 use Rattle.refusal.specs.Rows.{pick}
+use Rattle.spongewrap.specs.Refusals.{mostPairs}
 use Rattle.bundle.specs.declared.Entry.{Entry}
 use Rattle.bundle.specs.declared.Entry.the-variants.{Whole, Short, Large, Past}
 use Rattle.bundle.specs.Format.{Version, most, nextAt, entryAt, badLabel}
@@ -29,7 +30,7 @@ walk v (suc n) b place k =
     pick (ltb place (length b)) (entryTold (entryAt v b place) place orElse walk v n b (nextAt v b place) (k + 1)) (last v b k)
 
 unfoldable pub entriesFrom : Version → List ℕ → ℕ → ℕ → Told
-entriesFrom v b place k = walk v (65535 - k) b place k
+entriesFrom v b place k = walk v (mostPairs - k) b place k
 
 unfoldable pub surveys : Version → List ℕ → Told
 surveys v b =

@@ -2,6 +2,7 @@
 ghost use mathlib.Core.Path.{_≡_};
 ghost use Prim.Native.Nat.{_+_, _≤_};
 ghost use Rattle.spongewrap.specs.Sessions.{cost};
+ghost use Rattle.spongewrap.specs.Refusals.{mostHeader, mostBody};
 ghost use Rattle.bundle.specs.Format.{version1, bundleRate, size, entryAt, badLabel};
 use crate::Entry;
 use spongewrap::orders;
@@ -27,7 +28,7 @@ const MOST_LABEL: usize = 64;
 
 // How many bytes an entry takes, by the lengths of its header and body.
 pub fn entry_size(header: usize, body: usize) -> usize
-    requires { ⌜ (header ≤ 65535) × (body ≤ 1048576) ⌝ }
+    requires { ⌜ (header ≤ mostHeader) × (body ≤ mostBody) ⌝ }
     ensures { λ r. ⌜ r ≡ size version1 header body ⌝ }
 {
     LENGTHS + header + body + TAG

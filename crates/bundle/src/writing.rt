@@ -6,6 +6,7 @@ ghost use lib.ListN.{length};
 ghost use lib.Seq.{sets};
 ghost use Rattle.spongewrap.specs.Sessions.{next};
 ghost use Rattle.spongewrap.specs.Desk.{desk};
+ghost use Rattle.spongewrap.specs.Refusals.{mostHeader, mostBody};
 ghost use Rattle.bundle.specs.Format.{version1, most, frontOf, entryOf, size};
 ghost use Rattle.bundle.specs.Answers.{refused, seen};
 ghost use Rattle.bundle.specs.Writing.{Ready, startTable, bundleOf, starts, endOf, endWith, bufferTable, addTable, withEntry, adds};
@@ -23,7 +24,7 @@ use spongewrap::orders;
 
 // Writes what stands before an entry's ciphertext: the two lengths and the header. Answers the ciphertext's place.
 fn write_front(header: &[u8], body: usize, bundle: &mut [u8], place: usize) -> usize
-    requires { ⌜ (length (now header) ≤ 65535) × (body ≤ 1048576) × (place + 6 + length (now header) ≤ length (now bundle)) ⌝ }
+    requires { ⌜ (length (now header) ≤ mostHeader) × (body ≤ mostBody) × (place + 6 + length (now header) ≤ length (now bundle)) ⌝ }
     ensures { λ r. ⌜ (r ≡ place + 6 + length (now (header .entry))) × (now (bundle .exit) ≡ sets (now (bundle .entry)) place (frontOf (now (header .entry)) body)) ⌝ }
 {
     fields::put_u16(bundle, place, header.len() as u16);
@@ -94,7 +95,7 @@ fn end_of(bundle: &[u8]) -> usize
 
 // Where it ends with one entry more, by the lengths of the entry's header and body.
 fn end_with(bundle: &[u8], header: usize, body: usize) -> usize
-    requires { ⌜ (endOf (now bundle) ≤ length (now bundle)) × (header ≤ 65535) × (body ≤ 1048576) ⌝ }
+    requires { ⌜ (endOf (now bundle) ≤ length (now bundle)) × (header ≤ mostHeader) × (body ≤ mostBody) ⌝ }
     ensures { λ r. ⌜ r ≡ endWith version1 (now (bundle .entry)) header body ⌝ }
 {
     end_of(bundle) + format::entry_size(header, body)
@@ -125,7 +126,7 @@ fn add_refusal(s: Session, bundle: &[u8], header: usize, body: usize) -> Refusal
 
 // The buffer's own first bytes, and then the room that an entry more would take.
 fn buffer_refusal(bundle: &[u8], header: usize, body: usize) -> Refusal
-    requires { ⌜ (header ≤ 65535) × (body ≤ 1048576) ⌝ }
+    requires { ⌜ (header ≤ mostHeader) × (body ≤ mostBody) ⌝ }
     ensures { λ r. ⌜ refused (r .number) (r .place) ≡ bufferTable version1 (now (bundle .entry)) header body ⌝ }
 {
     let room = bundle.len();

@@ -4,6 +4,7 @@ use mathlib.Core.Path.{_≡_, refl, sym, _∙_}
 use native.Mathlib.Omega.{arith}
 use lib.ListN.{length}
 use borrow.Author.Needs.{needs}
+use Rattle.spongewrap.specs.Refusals.{mostPairs}
 use Rattle.bundle.specs.Format.{version1}
 use Rattle.bundle.specs.Survey.{entriesFrom}
 use Rattle.bundle.proofs.Entries.{whole-at, not-whole, walk-end, walk-full, walk-bad, walk-next, last-bad, last-good}
@@ -11,7 +12,7 @@ use Rattle.bundle.proofs.surveying.survey_entries.Statement.{statement}
 use Rattle.bundle.proofs.surveying.survey_entries.Tie as tie
 
 abbrev Inv-loop : tie.InvT-loop
-Inv-loop bundle place₀ count₀ place count = (entriesFrom version1 bundle 5 0 ≡ entriesFrom version1 bundle place count) × (count ≤ 65535)
+Inv-loop bundle place₀ count₀ place count = (entriesFrom version1 bundle 5 0 ≡ entriesFrom version1 bundle place count) × (count ≤ mostPairs)
 
 abbrev μ-loop : tie.MeasureT-loop
 μ-loop bundle place₀ count₀ place count = length bundle - place

@@ -9,7 +9,7 @@ use Rattle.bundle.proofs.writing.start_refusal.Statement.{statement}
 use Rattle.bundle.proofs.writing.start_refusal.Tie as tie
 
 small : (c : tie.Else2) → c .before .before .before .before .args .label ≤ 64
-small c = inside 16 64 (c .before .before .before .before .args .label) (sym (c .before .bad-label .ensures) ∙ c .if2 .left) .1
+small c = inside _ _ (c .before .before .before .before .args .label) (sym (c .before .bad-label .ensures) ∙ c .if2 .left) .1
 
 pub start-refusal-spec : {M : Type 1} → statement M
 unfolding startTable
