@@ -17,7 +17,7 @@ use Rattle.bundle.specs.declared.Entry.{Entry}
 use Rattle.bundle.specs.declared.Entry.the-variants.{Whole, Short, Large, Past}
 use Rattle.bundle.specs.Format.{Version, most, headerLength, bodyLength, nextAt, WholeAt, entryAt}
 use Rattle.bundle.specs.Answers.{Told, refused, accepted, _orElse_, entryTold}
-use Rattle.bundle.specs.Survey.{unlabelled, last, walk, entriesFrom, surveys}
+use Rattle.bundle.specs.Survey.{unlabelled, last, walkEntries, entriesFrom, surveys}
 use Rattle.refusal.proofs.Rows.{taken, passed}
 use Rattle.bundle.proofs.Tables.{stops-at, goes}
 
@@ -90,20 +90,20 @@ entry-bad Past f place n p q g d en ep = rw (← g, en, ep)
 
 module _ (v : Version) (b : List ℕ) (place k : ℕ) where
   pub walk-end : length b ≤ place → entriesFrom v b place k ≡ last v b k
-  unfolding entriesFrom walk pick
+  unfolding entriesFrom walkEntries pick
   walk-end h = ended (mostPairs - k)
     where
-      ended : (n : ℕ) → walk v n b place k ≡ last v b k
+      ended : (n : ℕ) → walkEntries v n b place k ≡ last v b k
       ended zero = rw (le-ltb place (length b) h)
       ended (suc n) = rw (le-ltb place (length b) h)
 
   module _ (some : place < length b) where
     pub walk-full : k ≡ mostPairs → entriesFrom v b place k ≡ refused 7 place
-    unfolding entriesFrom walk pick
+    unfolding entriesFrom walkEntries pick
     walk-full e = rw (e, lt-ltb place (length b) some)
 
     pub walk-on : k < mostPairs → entriesFrom v b place k ≡ (entryTold (entryAt v b place) place orElse entriesFrom v b (nextAt v b place) (k + 1))
-    unfolding entriesFrom walk pick
+    unfolding entriesFrom walkEntries pick
     walk-on l =
         let n : mostPairs - k ≡ suc (mostPairs - (k + 1)) = omega arith in
         rw (n, lt-ltb place (length b) some)

@@ -17,15 +17,15 @@ use Rattle.bundle.specs.declared.Entry.{Entry}
 use Rattle.bundle.specs.declared.Entry.the-variants.{Whole}
 use Rattle.bundle.specs.Format.{Version, headerLength, bodyLength, headerAt, cipherAt, nextAt, WholeAt, entryAt}
 use Rattle.bundle.specs.Answers.{own, entryTold, seen}
-use Rattle.bundle.specs.Opening.{lastRows, openTable, bodyAt, unwrapsAt, opens}
+use Rattle.bundle.specs.Opening.{lastRows, openTable, bodyAt, unwrapsAt, opensEntry}
 use Rattle.bundle.proofs.Tables.{goes, fit, unwrap-rows, settle-stops, settle-by}
 use Rattle.bundle.proofs.Entries.{whole-at, entry-bad}
 
 -- no entry is whole there
 pub open-bad : (v : Version) (s : Session) (b : List ℕ) (place : ℕ) (o : List ℕ) (e : Entry) (n p : ℕ) → first (own v s) ≡ 0 → e ≡ entryAt v b place
     → (entryTold e place .number ≡ 0 → ⊥) → n ≡ entryTold e place .number → p ≡ entryTold e place .place
-    → seen (record { number = n; place = p; next = 0; session = s }) o ≡ opens v s b place o
-unfolding opens openTable
+    → seen (record { number = n; place = p; next = 0; session = s }) o ≡ opensEntry v s b place o
+unfolding opensEntry openTable
 open-bad v s b place o e n p z g d en ep =
     settle-stops _ s _ o _ n p (goes place (sym z) refl (entry-bad e _ place n p _ g d en ep)) (λ x. d (sym en ∙ x))
 
@@ -47,10 +47,10 @@ module _ (v : Version) (s : Session) (b : List ℕ) (place : ℕ) (o : List ℕ)
   last-rows = first (lastRows v s b place (length o))
 
   -- what the opening comes to
-  pub open-told : opens v s b place o
+  pub open-told : opensEntry v s b place o
       ≡ seen (record { number = last-rows; place = by last-rows place 0; next = by last-rows 0 (nextAt v b place); session = by last-rows s (next desk s (headerAt b place) (bodyAt s b place)) })
       (by last-rows o (bodyAt s b place ++ drop (length (bodyAt s b place)) o))
-  unfolding opens openTable by
+  unfolding opensEntry openTable by
   open-told = rw (z, e) (settle-by last-rows place (nextAt v b place) s _ o _)
 
   w : WholeAt v b place h m n
@@ -72,7 +72,7 @@ module _ (v : Version) (s : Session) (b : List ℕ) (place : ℕ) (o : List ℕ)
         rw (lh, lc, unwrap-rows v s (headerLength b place) (bodyLength b place) (length o) (fit v s z) (omega (arith, number-two b place, bytes place, bytes (place + 1))) (omega arith) _)
 
     pub open-is : (a : Unwrap) (o′ : List ℕ) → unwrap-seen a o′ ≡ unwrapsAt v s b place o
-        → seen (record { number = a .number; place = by (a .number) place 0; next = by (a .number) 0 n; session = a .session }) o′ ≡ opens v s b place o
+        → seen (record { number = a .number; place = by (a .number) place 0; next = by (a .number) 0 n; session = a .session }) o′ ≡ opensEntry v s b place o
     open-is a o′ call =
         let g = call ∙ unwrap-told in
         rw (ap (λ (u : Unwrapped). u .answer .number) g, ap (λ (u : Unwrapped). u .answer .session) g, ap (λ (u : Unwrapped). u .out) g, w .is-next) (sym open-told)

@@ -20,11 +20,11 @@ use Rattle.refusal.proofs.Rows.{kept, all-clear}
 use Rattle.bundle.specs.declared.Entry.{Entry}
 use Rattle.bundle.specs.declared.Entry.the-variants.{Whole, Short, Large, Past}
 use Rattle.bundle.specs.Format.{Version, entryOf, headerAt, tagAt, nextAt, entryAt}
-use Rattle.bundle.specs.Answers.{Told, refused, accepted, own, _orElse_, entryTold, Seen, seen, settled}
+use Rattle.bundle.specs.Answers.{Told, refused, accepted, own, _orElse_, entryTold, Seen, seen, settledAt}
 use Rattle.bundle.specs.Survey.{unlabelled, entriesFrom, surveys}
-use Rattle.bundle.specs.Opening.{lastRows, openTable, bodyAt, opens}
+use Rattle.bundle.specs.Opening.{lastRows, openTable, bodyAt, opensEntry}
 use Rattle.bundle.specs.Writing.{startTable, starts, endOf, endWith, addTable, withEntry, adds}
-use Rattle.bundle.specs.Contents.{Pair, labelled, after, entriesOf, bundleWith, addsAll, AllAdded, OpensAll}
+use Rattle.bundle.specs.Contents.{Pair, labelled, afterPairs, entriesOf, bundleWith, addsAll, AllAdded, OpensAll}
 use Rattle.bundle.proofs.Tables.{through}
 use Rattle.bundle.proofs.Entries.{entry-whole, last-good, survey-walks}
 use Rattle.bundle.proofs.Contents.{number-in, length-entry, stands, Sealed, opens-all, walk-all}
@@ -38,7 +38,7 @@ pub record Kept (s : Session) (d : List ℕ) (u : Seen) : Type 0 where
   pub session : u .answer .session ≡ s
   pub buffer : u .buffer ≡ d
 
-settled-kept : (t : Told) (s s′ : Session) (d d′ : List ℕ) → (t .number ≡ 0 → ⊥) → Kept s d (settled t s d s′ d′)
+settled-kept : (t : Told) (s s′ : Session) (d d′ : List ℕ) → (t .number ≡ 0 → ⊥) → Kept s d (settledAt t s d s′ d′)
 settled-kept t s s′ d d′ w = record { session = kept (t .number) s s′ w; buffer = kept (t .number) d d′ w }
 
 -- a table that refuses does so at p, and answers no value
@@ -84,25 +84,25 @@ module _ (v : Version) (s : Session) where
 
   -- A refused opening gives back the session that it took and leaves every byte of the output; it carries the place that was asked
   -- for, and no next one.
-  pub open-refused : (b : List ℕ) (place : ℕ) (o : List ℕ) → (opens v s b place o .answer .number ≡ 0 → ⊥)
-      → opens v s b place o ≡ seen (record { number = opens v s b place o .answer .number; place = place; next = 0; session = s }) o
-  unfolding opens
+  pub open-refused : (b : List ℕ) (place : ℕ) (o : List ℕ) → (opensEntry v s b place o .answer .number ≡ 0 → ⊥)
+      → opensEntry v s b place o ≡ seen (record { number = opensEntry v s b place o .answer .number; place = place; next = 0; session = s }) o
+  unfolding opensEntry
   open-refused b place o w =
       let e = open-at b place (length o) w in
       let k = settled-kept (openTable v s b place (length o)) s (next desk s (headerAt b place) (bodyAt s b place)) o (bodyAt s b place ++ drop (length (bodyAt s b place)) o) w in
       rw (k .session, k .buffer, ap (λ (u : Told). u .place) e, ap (λ (u : Told). getD (u .values) 0 0) e)
 
   -- All refusals numbered 8 at one place are the same, whatever bundle was handed over and whichever byte differs.
-  pub eights-alike : (place : ℕ) (o b b′ : List ℕ) → opens v s b place o .answer .number ≡ 8 → opens v s b′ place o .answer .number ≡ 8
-      → opens v s b place o ≡ opens v s b′ place o
+  pub eights-alike : (place : ℕ) (o b b′ : List ℕ) → opensEntry v s b place o .answer .number ≡ 8 → opensEntry v s b′ place o .answer .number ≡ 8
+      → opensEntry v s b place o ≡ opensEntry v s b′ place o
   eights-alike place o b b′ e f = open-refused b place o (λ z. omega arith) ∙ rw (e, ← f) (sym (open-refused b′ place o (λ z. omega arith)))
 
   -- ---- the tag of an entry
 
   -- An entry that opens has the tag that is recomputed over its very header and body, in the session that all earlier pairs left.
-  pub opened-tag : (b : List ℕ) (place : ℕ) (o : List ℕ) → opens v s b place o .answer .number ≡ 0
+  pub opened-tag : (b : List ℕ) (place : ℕ) (o : List ℕ) → opensEntry v s b place o .answer .number ≡ 0
       → tagAt v b place ≡ tagOf desk s (headerAt b place) (bodyAt s b place)
-  unfolding opens openTable bodyAt foreign
+  unfolding opensEntry openTable bodyAt foreign
   opened-tag b place o e =
       let p = through (first (own v s)) place _ e in
       let q = through _ place (accepted (nextAt v b place ∷ [])) (past-entry (entryAt v b place) place _ (p .1)) in
@@ -143,7 +143,7 @@ module _ (v : Version) (s : Session) (label d : List ℕ) (ps : List Pair) (all 
   holds = all-holds v s label d ps all
 
   -- The bundle is the entries of all pairs in order, with the label's in front, and the session is the one after them.
-  pub written-is : (written ≡ bundleWith v s (labelled label ∷ ps)) × (final .answer .session ≡ after s (labelled label ∷ ps))
+  pub written-is : (written ≡ bundleWith v s (labelled label ∷ ps)) × (final .answer .session ≡ afterPairs s (labelled label ∷ ps))
   written-is =
       (ap (λ (d : List ℕ). take (endOf (final .buffer)) d) (holds .held) ∙ take-at (bundleWith v s (labelled label ∷ ps)) (holds .rest) (endOf (final .buffer)) (sym (ends v s (labelled label ∷ ps) (final .answer .session) (final .buffer) holds)), holds .session)
 

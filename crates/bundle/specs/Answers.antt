@@ -12,7 +12,7 @@ use Rattle.bundle.specs.declared.Entry.{Entry}
 use Rattle.bundle.specs.declared.Entry.the-variants.{Whole, Short, Large, Past}
 use Rattle.bundle.specs.declared.Surveyed.{Surveyed}
 use Rattle.bundle.specs.declared.Surveyed.the-variants.{Entries, Refused}
-use Rattle.bundle.specs.declared.Answer.{Answer}
+use Rattle.bundle.specs.declared.Reply.{Reply}
 use Rattle.bundle.specs.Format.{Version, bundleRate}
 
 -- the number, 0 if accepted; the place, 0 unless said; and what else an accepted call answers
@@ -59,12 +59,12 @@ surveyTold (Refused number place) = refused number place
 
 -- what is seen of one: its answer, and the lent buffer as it is left
 pub record Seen : Type 0 where
-  pub answer : Answer
+  pub answer : Reply
   pub buffer : List ℕ
 
-abbrev pub seen : Answer → List ℕ → Seen
+abbrev pub seen : Reply → List ℕ → Seen
 seen a d = record { answer = a; buffer = d }
 
 -- by its table: a refusal keeps the session s and the buffer d; else they are s′ and d′, and the next place is what it answers
-abbrev pub settled : Told → Session → List ℕ → Session → List ℕ → Seen
-settled t s d s′ d′ = seen (record { number = t .number; place = t .place; next = getD (t .values) 0 0; session = by (t .number) s s′ }) (by (t .number) d d′)
+abbrev pub settledAt : Told → Session → List ℕ → Session → List ℕ → Seen
+settledAt t s d s′ d′ = seen (record { number = t .number; place = t .place; next = getD (t .values) 0 0; session = by (t .number) s s′ }) (by (t .number) d d′)

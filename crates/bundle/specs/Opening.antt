@@ -8,7 +8,7 @@ use Rattle.refusal.specs.Rows.{short}
 use Rattle.spongewrap.specs.Sessions.{next, recovered, foreign, unwraps, Seen as Unwrapped}
 use Rattle.spongewrap.specs.declared.Session.{Session}
 use Rattle.bundle.specs.Format.{Version, bodyLength, headerAt, cipherAt, tagAt, nextAt, entryAt}
-use Rattle.bundle.specs.Answers.{Told, accepted, placed, _orElse_, own, entryTold, Seen, settled}
+use Rattle.bundle.specs.Answers.{Told, accepted, placed, _orElse_, own, entryTold, Seen, settledAt}
 
 -- the rows that an unwrap brings
 abbrev pub lastRows : Version → Session → List ℕ → ℕ → ℕ → List (Bool × ℕ)
@@ -31,7 +31,7 @@ bodyAt s b place = recovered desk s (headerAt b place) (cipherAt b place)
 abbrev pub unwrapsAt : Version → Session → List ℕ → ℕ → List ℕ → Unwrapped
 unwrapsAt v s b place o = unwraps desk s (headerAt b place) (cipherAt b place) (tagAt v b place) o
 
-unfoldable pub opens : Version → Session → List ℕ → ℕ → List ℕ → Seen
-opens v s b place o =
-    settled (openTable v s b place (length o)) s o
+unfoldable pub opensEntry : Version → Session → List ℕ → ℕ → List ℕ → Seen
+opensEntry v s b place o =
+    settledAt (openTable v s b place (length o)) s o
     (next desk s (headerAt b place) (bodyAt s b place)) (bodyAt s b place ++ drop (length (bodyAt s b place)) o)

@@ -24,13 +24,13 @@ unfoldable pub last : Version → List ℕ → ℕ → Told
 last v b k = placed 5 ((unlabelled (entryAt v b 5), 11) ∷ []) orElse accepted (k ∷ [])
 
 -- entry by entry: number k is at `place`, and n more may come before entry 65,535, which is 7 at its first byte
-unfoldable pub walk : Version → ℕ → List ℕ → ℕ → ℕ → Told
-walk v zero b place k = pick (ltb place (length b)) (refused 7 place) (last v b k)
-walk v (suc n) b place k =
-    pick (ltb place (length b)) (entryTold (entryAt v b place) place orElse walk v n b (nextAt v b place) (k + 1)) (last v b k)
+unfoldable pub walkEntries : Version → ℕ → List ℕ → ℕ → ℕ → Told
+walkEntries v zero b place k = pick (ltb place (length b)) (refused 7 place) (last v b k)
+walkEntries v (suc n) b place k =
+    pick (ltb place (length b)) (entryTold (entryAt v b place) place orElse walkEntries v n b (nextAt v b place) (k + 1)) (last v b k)
 
 unfoldable pub entriesFrom : Version → List ℕ → ℕ → ℕ → Told
-entriesFrom v b place k = walk v (mostPairs - k) b place k
+entriesFrom v b place k = walkEntries v (mostPairs - k) b place k
 
 unfoldable pub surveys : Version → List ℕ → Told
 surveys v b =

@@ -52,7 +52,7 @@ pub enum Surveyed {
 
 // What a call with a session answers: 0 or a refusal's number, a refusal's place, the place of the entry after one that opened,
 // and a session. Where there is no such place it is 0.
-pub struct Answer {
+pub struct Reply {
     pub number: u8,
     pub place: usize,
     pub next: usize,
@@ -93,10 +93,10 @@ fn entry_refusal(entry: Entry, place: usize) -> Refusal
     }
 }
 
-fn refuse(number: u8, place: usize, session: Session) -> Answer
+fn refuse(number: u8, place: usize, session: Session) -> Reply
     ensures { λ r. ⌜ r ≡ record { number = number; place = place; next = 0; session = session } ⌝ }
 {
-    Answer {
+    Reply {
         number,
         place,
         next: 0,
@@ -104,10 +104,10 @@ fn refuse(number: u8, place: usize, session: Session) -> Answer
     }
 }
 
-fn accept(next: usize, session: Session) -> Answer
+fn accept(next: usize, session: Session) -> Reply
     ensures { λ r. ⌜ r ≡ record { number = 0; place = 0; next = next; session = session } ⌝ }
 {
-    Answer {
+    Reply {
         number: 0,
         place: 0,
         next,

@@ -4,9 +4,9 @@ ghost use Rattle.refusal.specs.Rows.{first, by};
 ghost use Rattle.spongewrap.specs.Sessions.{next, seen as unwrapSeen};
 ghost use Rattle.bundle.specs.Format.{version1, WholeAt, entryAt};
 ghost use Rattle.bundle.specs.Answers.{own, seen};
-ghost use Rattle.bundle.specs.Opening.{unwrapsAt, opens};
-use crate::Answer;
+ghost use Rattle.bundle.specs.Opening.{unwrapsAt, opensEntry};
 use crate::Entry;
+use crate::Reply;
 use crate::accept;
 use crate::entry_refusal;
 use crate::format;
@@ -40,7 +40,7 @@ fn unwrap_at(
 }
 
 // The answer to an opening, by that of its unwrap: a refusal carries the place that was asked for, and else the next entry's is told.
-fn placed(done: spongewrap::Answer, place: usize, next: usize) -> Answer
+fn placed(done: spongewrap::Answer, place: usize, next: usize) -> Reply
     ensures { λ r. ⌜ r ≡ record { number = done .number; place = by (done .number) place 0; next = by (done .number) 0 next; session = done .session } ⌝ }
 {
     let number = done.number;
@@ -60,9 +60,9 @@ fn open_whole(
     body: usize,
     next: usize,
     out: &mut [u8],
-) -> Answer
+) -> Reply
     requires { ⌜ (first (own version1 s) ≡ 0) × (entryAt version1 (now bundle) place ≡ Entry.Whole header body next) ⌝ }
-    ensures { λ r. ⌜ seen r (now (out .exit)) ≡ opens version1 s (now (bundle .entry)) place (now (out .entry)) ⌝ }
+    ensures { λ r. ⌜ seen r (now (out .exit)) ≡ opensEntry version1 s (now (bundle .entry)) place (now (out .entry)) ⌝ }
 {
     let done = unwrap_at(s, bundle, place, header, body, next, out);
     placed(done, place, next)
@@ -70,8 +70,8 @@ fn open_whole(
 
 // Opens the entry at a place: its body goes to the first bytes of `out`, and the answer says where the next entry stands.
 // A refusal carries the place that was asked for.
-pub fn open_entry(s: Session, bundle: &[u8], place: usize, out: &mut [u8]) -> Answer
-    ensures { λ r. ⌜ seen r (now (out .exit)) ≡ opens version1 s (now (bundle .entry)) place (now (out .entry)) ⌝ }
+pub fn open_entry(s: Session, bundle: &[u8], place: usize, out: &mut [u8]) -> Reply
+    ensures { λ r. ⌜ seen r (now (out .exit)) ≡ opensEntry version1 s (now (bundle .entry)) place (now (out .entry)) ⌝ }
 {
     let number = own_refusal(s);
     if number != 0 {

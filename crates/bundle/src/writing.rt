@@ -10,11 +10,11 @@ ghost use Rattle.spongewrap.specs.Refusals.{mostHeader, mostBody};
 ghost use Rattle.bundle.specs.Format.{version1, most, frontOf, entryOf, size};
 ghost use Rattle.bundle.specs.Answers.{refused, seen};
 ghost use Rattle.bundle.specs.Writing.{Ready, startTable, bundleOf, starts, endOf, endWith, bufferTable, addTable, withEntry, adds};
-use crate::Answer;
 use crate::MALFORMED;
 use crate::NO_LABEL;
 use crate::OTHER_VERSION;
 use crate::Refusal;
+use crate::Reply;
 use crate::accept;
 use crate::format;
 use crate::own_refusal;
@@ -74,7 +74,7 @@ fn write_first(s: Session, label: &[u8], bundle: &mut [u8]) -> Session
 }
 
 // Starts a bundle.
-pub fn start(s: Session, label: &[u8], bundle: &mut [u8]) -> Answer
+pub fn start(s: Session, label: &[u8], bundle: &mut [u8]) -> Reply
     ensures { λ r. ⌜ seen r (now (bundle .exit)) ≡ starts version1 s (now (label .entry)) (now (bundle .entry)) ⌝ }
 {
     let number = start_refusal(s, label.len(), bundle.len());
@@ -181,7 +181,7 @@ fn write_last(s: Session, header: &[u8], body: &[u8], bundle: &mut [u8]) -> Sess
 }
 
 // Adds an entry to the bundle. All other bytes stand.
-pub fn add(s: Session, header: &[u8], body: &[u8], bundle: &mut [u8]) -> Answer
+pub fn add(s: Session, header: &[u8], body: &[u8], bundle: &mut [u8]) -> Reply
     ensures { λ r. ⌜ seen r (now (bundle .exit)) ≡ adds version1 s (now (header .entry)) (now (body .entry)) (now (bundle .entry)) ⌝ }
 {
     let r = add_refusal(s, &bundle[..], header.len(), body.len());

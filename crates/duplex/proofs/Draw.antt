@@ -13,7 +13,7 @@ use Rattle.sponge.specs.Sponge.{absorb, iterate}
 use Rattle.sponge.proofs.Pieces.{length-piece, absorb-append}
 use Rattle.sponge.proofs.Turns.{piece-written}
 use Rattle.sponge.proofs.Squeeze.{length-bytes, onward, given, given-length, reached-iterate, squeeze-written, length-squeeze}
-use Rattle.duplex.specs.Duplex.{framed, blank, drawn, after}
+use Rattle.duplex.specs.Duplex.{framed, blank, drawn, stateAfter}
 use Rattle.duplex.specs.Strings.{blocks}
 use Rattle.duplex.proofs.Strings.{duplexing-blocks}
 
@@ -31,8 +31,8 @@ module _ (w : ℕ) (f : List ℕ → List ℕ) (R : ℕ) (a : List ℕ) where
 
 -- after the blocks B
 pub after-blocks : (w : ℕ) (f : List ℕ → List ℕ) (R : ℕ) (a : List ℕ) (B : List (List ℕ)) (n : ℕ)
-    → after w f R (absorb w f a B) n ≡ absorb w f a (B ++ replicate (before (R - 1) n) (framed R 0 []))
-unfolding after
+    → stateAfter w f R (absorb w f a B) n ≡ absorb w f a (B ++ replicate (before (R - 1) n) (framed R 0 []))
+unfolding stateAfter
 after-blocks w f R a B n = blanks-absorb w f R (absorb w f a B) (before (R - 1) n) ∙ sym (absorb-append w f a B _)
 
 -- ---- its pieces

@@ -10,7 +10,7 @@ use lib.ListN.{length, take}
 use Rattle.keccak.specs.Rounds.{f1600}
 use Rattle.sponge.specs.Bytes.{bytes}
 use Rattle.duplex.specs.Duplex.{Rate, duplexing}
-use Rattle.duplex.specs.Object.{bit, refused, seen, settled, duplexes}
+use Rattle.duplex.specs.Object.{bit, duplexRefused, seen, duplexSettled, duplexes}
 use Rattle.duplex.specs.declared.Duplex.{Duplex}
 
 none-holds : (x y z : Bool) → (x || y || z) ≡ false → (x ≡ false) × (y ≡ false) × (z ≡ false)
@@ -28,9 +28,9 @@ rate-136 = record { room = lit< tt; most = lit≤ tt; lanes = refl }
 rate-168 : Rate 64 168
 rate-168 = record { room = lit< tt; most = lit≤ tt; lanes = refl }
 
-pub accepted : (R piece out : ℕ) → refused R piece out ≡ false → Rate 64 R × (piece < R) × (out ≤ R)
-unfolding refused
-accepted R piece out e =
+pub duplex-passes : (R piece out : ℕ) → duplexRefused R piece out ≡ false → Rate 64 R × (piece < R) × (out ≤ R)
+unfolding duplexRefused
+duplex-passes R piece out e =
     let h = none-holds (not (eqb R 136) && not (eqb R 168)) (leb R piece) (ltb R out) e in (
       ⊎-elim (λ t. rw (eqb-true R 136 t) rate-136) (λ t. rw (eqb-true R 168 t) rate-168) (one-fails (eqb R 136) (eqb R 168) (h .0)),
       leb-false R piece (h .1),
@@ -44,11 +44,11 @@ bit-small false = lit< tt
 -- ---- what a call gives
 
 module _ (d : Duplex) (p : List ℕ) (b : Bool) (o : List ℕ) where
-  pub refusing : refused (d .rate) (length p) (length o) ≡ true → seen (record { done = false; duplex = d }) o ≡ duplexes d p b o
-  unfolding duplexes settled
+  pub refusing : duplexRefused (d .rate) (length p) (length o) ≡ true → seen (record { done = false; duplex = d }) o ≡ duplexes d p b o
+  unfolding duplexes duplexSettled
   refusing e = rw e
 
-  pub doing : (n : ℕ) (l o′ : List ℕ) → refused (d .rate) (length p) (length o) ≡ false → n ≡ bit b → l ≡ duplexing 64 f1600 (d .rate) (d .lanes) p n
+  pub doing : (n : ℕ) (l o′ : List ℕ) → duplexRefused (d .rate) (length p) (length o) ≡ false → n ≡ bit b → l ≡ duplexing 64 f1600 (d .rate) (d .lanes) p n
       → o′ ≡ take (length o) (bytes 64 l) → seen (record { done = true; duplex = record { lanes = l; rate = d .rate } }) o′ ≡ duplexes d p b o
-  unfolding duplexes settled
+  unfolding duplexes duplexSettled
   doing n l o′ e f h q = rw (e, q, h, f)

@@ -6,14 +6,14 @@ use Prim.Native.Nat.{ℕ}
 use contract.Lifetimes.{Lfts}
 use denote.Ref.{now}
 use lib.ListN.{length}
-use Rattle.duplex.specs.Object.{Seen, seen, refused}
-use Rattle.duplex.specs.declared.Answer.{Answer}
+use Rattle.duplex.specs.Object.{Seen, seen, duplexRefused}
+use Rattle.duplex.specs.declared.Duplexed.{Duplexed}
 use Rattle.duplex.proofs.Object.{refusing}
 use Rattle.duplex.proofs.Duplex.new.Reads as new
 use Rattle.duplex.proofs.Duplex.duplexing.Reads as duplexing
 
 -- what is seen says both its parts
-parts : (r r′ : Answer) (o o′ : List ℕ) → seen r o ≡ seen r′ o′ → (r ≡ r′) × (o ≡ o′)
+parts : (r r′ : Duplexed) (o o′ : List ℕ) → seen r o ≡ seen r′ o′ → (r ≡ r′) × (o ≡ o′)
 parts r r′ o o′ e = (ap (λ (v : Seen). v .answer) e, ap (λ (v : Seen). v .out) e)
 
 pub new-outcome : (κs : Lfts 0) (a x y s t : _) → new.Post κs a x s → new.Post κs a y t → x ≡ y
@@ -25,6 +25,6 @@ duplexing-outcome κs a x y s t e h = parts x y _ _ (e ∙ sym h)
 
 -- a refused call keeps the object and the output
 pub duplexing-refused : (κs : Lfts 2) (a x s : _) → duplexing.Post κs a x s
-    → refused (a .0 .rate) (length (now (a .1 .0))) (length (now (a .1 .1 .1 .0))) ≡ true
+    → duplexRefused (a .0 .rate) (length (now (a .1 .0))) (length (now (a .1 .1 .1 .0))) ≡ true
     → (x ≡ record { done = false; duplex = a .0 }) × (now (s .1 .1 .1 .0) ≡ now (a .1 .1 .1 .0))
 duplexing-refused κs a x s e h = parts x _ _ _ (e ∙ sym (refusing _ _ _ _ h))

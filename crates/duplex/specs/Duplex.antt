@@ -23,8 +23,8 @@ blank w f R a = duplexing w f R a [] 0
 unfoldable pub drawn : ℕ → (List ℕ → List ℕ) → ℕ → List ℕ → ℕ → List ℕ
 drawn w f R a n = squeeze w (blank w f R) (R - 1) a n
 
-unfoldable pub after : ℕ → (List ℕ → List ℕ) → ℕ → List ℕ → ℕ → List ℕ
-after w f R a n = iterate (blank w f R) a (before (R - 1) n)
+unfoldable pub stateAfter : ℕ → (List ℕ → List ℕ) → ℕ → List ℕ → ℕ → List ℕ
+stateAfter w f R a n = iterate (blank w f R) a (before (R - 1) n)
 
 -- what the code asks of a rate: room for a byte and its frame, in whole lanes of w bits
 pub record Rate (w R : ℕ) : Type 0 where

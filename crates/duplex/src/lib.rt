@@ -7,9 +7,9 @@ ghost use lib.ListN.{length, drop};
 ghost use Rattle.keccak.specs.Rounds.{f1600};
 ghost use Rattle.sponge.specs.Bytes.{bytes};
 ghost use Rattle.sponge.specs.Sponge.{zeros};
-ghost use Rattle.duplex.specs.Duplex.{Rate, duplexing, blank, drawn, after};
+ghost use Rattle.duplex.specs.Duplex.{Rate, duplexing, blank, drawn, stateAfter};
 ghost use Rattle.duplex.specs.Strings.{xored, absorbed, sealed, opened};
-ghost use Rattle.duplex.specs.Object.{bit, refused, seen, duplexes};
+ghost use Rattle.duplex.specs.Object.{bit, duplexRefused, seen, duplexes};
 
 // A duplex object: the state, and how many bytes of it a block covers.
 pub struct Duplex {
@@ -18,7 +18,7 @@ pub struct Duplex {
 }
 
 // What a call answers: whether it was done, and the object after it.
-pub struct Answer {
+pub struct Duplexed {
     pub done: bool,
     pub duplex: Duplex,
 }
@@ -35,12 +35,12 @@ impl Duplex {
     }
 
     // One duplexing: a piece of at most rate - 1 bytes goes in, and the lent slice, at most rate bytes, is filled with output.
-    pub fn duplexing(self, piece: &[u8], frame: bool, out: &mut [u8]) -> Answer
+    pub fn duplexing(self, piece: &[u8], frame: bool, out: &mut [u8]) -> Duplexed
         ensures { λ r. ⌜ seen r (now (out .exit)) ≡ duplexes self (now (piece .entry)) frame (now (out .entry)) ⌝ }
     {
         let rate = self.rate as usize;
         if is_refused(rate, piece.len(), out.len()) {
-            return Answer {
+            return Duplexed {
                 done: false,
                 duplex: self,
             };
@@ -52,12 +52,12 @@ impl Duplex {
             lanes,
             rate: self.rate,
         };
-        Answer { done: true, duplex }
+        Duplexed { done: true, duplex }
     }
 }
 
 fn is_refused(rate: usize, piece: usize, out: usize) -> bool
-    ensures { λ r. ⌜ r ≡ refused rate piece out ⌝ }
+    ensures { λ r. ⌜ r ≡ duplexRefused rate piece out ⌝ }
 {
     if rate != 136 && rate != 168 {
         return true;
@@ -204,7 +204,7 @@ fn blanked(a: [u64; 25], rate: usize) -> [u64; 25]
 // The whole slice filled with output, rate - 1 bytes a state, and the state that the last of it was read from.
 pub fn drawn_into(a: [u64; 25], rate: usize, out: &mut [u8]) -> [u64; 25]
     requires { ⌜ Rate 64 rate ⌝ }
-    ensures { λ r. ⌜ (r ≡ after 64 f1600 rate a (length (now (out .entry)))) × (now (out .exit) ≡ drawn 64 f1600 rate a (length (now (out .entry)))) ⌝ }
+    ensures { λ r. ⌜ (r ≡ stateAfter 64 f1600 rate a (length (now (out .entry)))) × (now (out .exit) ≡ drawn 64 f1600 rate a (length (now (out .entry)))) ⌝ }
 {
     let most = rate - 1;
     let mut st = a;

@@ -9,7 +9,7 @@ use lib.ListN.{length, getD, take, drop}
 use Rattle.keccak.specs.Rounds.{f1600}
 use Rattle.sponge.specs.Pieces.{before}
 use Rattle.sponge.specs.Sponge.{iterate}
-use Rattle.duplex.specs.Duplex.{after}
+use Rattle.duplex.specs.Duplex.{stateAfter}
 use Rattle.duplex.specs.Strings.{blocks, absorbed}
 use Rattle.spongewrap.specs.Desk.{desk}
 use Rattle.spongewrap.specs.SpongeWrap.{headed}
@@ -120,16 +120,16 @@ module _ (g : Wrapping → Seen) (meets : (i : Wrapping) → g i ≡ wraps desk 
 
   -- A wrap that skips the duplexing of an empty header: the body goes on from the session's own lanes.
   pub wrap-skips-empty-header : ((i : Wrapping) → i .header ≡ [] → g i .answer .number ≡ 0
-      → g i .answer .session .lanes ≡ after 64 f1600 (i .session .rate) (absorbed 64 f1600 (i .session .rate) (i .session .lanes) 1 0 (i .body)) (i .session .tag)) → ⊥
-  unfolding empty wrapping-zeros plain after iterate before after-pair after-body
+      → g i .answer .session .lanes ≡ stateAfter 64 f1600 (i .session .rate) (absorbed 64 f1600 (i .session .rate) (i .session .lanes) 1 0 (i .body)) (i .session .tag)) → ⊥
+  unfolding empty wrapping-zeros plain stateAfter iterate before after-pair after-body
   wrap-skips-empty-header d =
       let z : _≡_ {A = ℕ} 0xc026b87a93e8a9ee 0xf4ef9e9955cbe5c3 = ap (λ (l : List ℕ). getD l 0 0) (lanes-are _ (d empty refl empty-well) ∙ no-body) in
       omega arith
 
   -- A wrap that skips the duplexing of an empty body: the tag comes from the lanes that the header left.
   pub wrap-skips-empty-body : ((i : Wrapping) → i .body ≡ [] → g i .answer .number ≡ 0
-      → g i .answer .session .lanes ≡ after 64 f1600 (i .session .rate) (headed 64 f1600 (i .session .rate) (i .session .lanes) (i .header)) (i .session .tag)) → ⊥
-  unfolding empty wrapping-zeros plain after iterate before after-pair after-header
+      → g i .answer .session .lanes ≡ stateAfter 64 f1600 (i .session .rate) (headed 64 f1600 (i .session .rate) (i .session .lanes) (i .header)) (i .session .tag)) → ⊥
+  unfolding empty wrapping-zeros plain stateAfter iterate before after-pair after-header
   wrap-skips-empty-body d =
       let z : _≡_ {A = ℕ} 0xc026b87a93e8a9ee 0x4aff58b51d129e1f = ap (λ (l : List ℕ). getD l 0 0) (lanes-are _ (d empty refl empty-well) ∙ no-header) in
       omega arith

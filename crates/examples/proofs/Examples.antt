@@ -1,5 +1,5 @@
 -- Document 01, "Checked by hand": every line marked P, computed from the definitions.
-use Prim.Native.Nat.{ℕ, _-_}
+use Prim.Native.Nat.{ℕ, _+_, _-_, _*_}
 use mathlib.Core.Path.{_≡_, refl}
 use mathlib.Core.List.{List, [], _∷_, map}
 use lib.ListN.{getD, replicate}
@@ -11,7 +11,7 @@ use Rattle.duplex.specs.Duplex.{framed}
 use Rattle.duplex.specs.Strings.{blocks}
 use Rattle.spongewrap.specs.Desk.{desk}
 use Rattle.refusal.specs.Rows.{pick, by}
-use Rattle.spongewrap.specs.Refusals.{openRefusal, wrapRefusal}
+use Rattle.spongewrap.specs.Refusals.{mostSize, mostHeader, mostBody, mostPairs, openRefusal, wrapRefusal}
 use Rattle.spongewrap.specs.Sessions.{opens, cost, advanced, next, settled, wraps}
 use Rattle.spongewrap.specs.declared.Session.{Session}
 
@@ -59,6 +59,8 @@ cases =
     ∷ (blocks 136 1048576, 7768)
     ∷ (blocks 136 256 - 1, 1)
     ∷ (cost 136 256 65535 1048576, 8255)
+    -- so much is the ceiling on a count: 65,535 such pairs, after a key of 256 bytes
+    ∷ (mostPairs * cost 136 mostSize mostHeader mostBody + blocks 136 mostSize, desk .ceiling)
     ∷ []
 
 -- Each worked example of document 01 that is marked P comes out as it is listed there.

@@ -11,7 +11,7 @@ use Rattle.sponge.specs.Bytes.{laneOf, mixed, byteOf, bytes}
 use Rattle.sponge.specs.Pieces.{piece, blocksOf, before}
 use Rattle.sponge.specs.Padding.{tail, padded}
 use Rattle.sponge.specs.Sponge.{absorbBlock, absorb, iterate, stream, squeeze}
-use Rattle.duplex.specs.Duplex.{framed, drawn, after}
+use Rattle.duplex.specs.Duplex.{framed, drawn, stateAfter}
 use Rattle.duplex.specs.Strings.{blocks, front, cut, xored, absorbed, masked, sealed, unmasked, opened}
 use Rattle.spongewrap.specs.Desk.{desk}
 use Rattle.spongewrap.specs.SpongeWrap.{headed, bodied, ciphertext, tagged, left, plaintext}
@@ -89,7 +89,7 @@ unfolding plain loaded absorbed cut front framed blocksOf piece before padded ta
 no-body = permuted-two
 
 pub next-state : next desk (plain 0 136) [] [] .lanes ≡ after-pair
-unfolding plain next advanced left after iterate before bodied
+unfolding plain next advanced left stateAfter iterate before bodied
 next-state = rw no-header pair-state
 
 -- ---- first bytes: of the ciphertext of 0, and of what the ciphertext 0 opens to

@@ -18,7 +18,7 @@ use Rattle.sponge.specs.Sponge.{zeros, absorbBlock, absorb}
 use Rattle.sponge.proofs.Table.{length-table}
 use Rattle.sponge.proofs.Lanes.{low-digit}
 use Rattle.sponge.proofs.Pieces.{absorb-append}
-use Rattle.duplex.specs.Duplex.{framed, after}
+use Rattle.duplex.specs.Duplex.{framed, stateAfter}
 use Rattle.duplex.specs.Strings.{blocks, front, cut, xored, absorbed, unmasked, opened}
 use Rattle.duplex.proofs.Draw.{after-blocks}
 
@@ -147,6 +147,6 @@ module _ {w : ℕ} {f : List ℕ → List ℕ} (k : Keeps w f) where
         leave-append (framed R 0 [] ∷ []) (replicate n (framed R 0 [])) (leave-one _ (framed-bytes R 0 [] (zero-lt-suc 1) (λ i. some))) (leave-blanks n)
 
     -- and that a tag of n bytes leaves
-    pub after-state : (a : List ℕ) (n : ℕ) → State w a → State w (after w f R a n)
+    pub after-state : (a : List ℕ) (n : ℕ) → State w a → State w (stateAfter w f R a n)
     unfolding absorb
     after-state a n s = rw (after-blocks w f R a [] n) (leave-blanks (before (R - 1) n) a s)

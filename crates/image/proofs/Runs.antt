@@ -11,7 +11,7 @@ use Rattle.refusal.proofs.Rows.{made}
 use Rattle.spongewrap.specs.Desk.{desk}
 use Rattle.spongewrap.specs.Sessions as sessions
 use Rattle.spongewrap.specs.Sessions.{opens, wraps, unwraps}
-use Rattle.spongewrap.specs.History.{Call, answered, Pair, pairOf, content, after, accepted, Told}
+use Rattle.spongewrap.specs.History.{Call, answered, SealedPair, pairOf, content, afterCalls, acceptedPairs, Tells}
 use Rattle.spongewrap.specs.History.Call.{wrapping, unwrapping}
 use Rattle.spongewrap.specs.declared.Session.{Session}
 use Rattle.spongewrap.proofs.Theorems.{wrap-kept, unwrap-kept}
@@ -51,12 +51,12 @@ module _ (s : Session) (e : Held s) where
 -- ---- a run
 
 record Run (s : Session) (cs : List Call) : Type 0 where
-  held : Held (after desk s cs)
-  image : imageAfter (imageOf s) cs ≡ imageOf (after desk s cs)
-  pairs : acceptedImage (imageOf s) cs ≡ accepted desk s cs
+  held : Held (afterCalls desk s cs)
+  image : imageAfter (imageOf s) cs ≡ imageOf (afterCalls desk s cs)
+  pairs : acceptedImage (imageOf s) cs ≡ acceptedPairs desk s cs
 
 run : (s : Session) → Held s → (cs : List Call) → AllHanded cs → Run s cs
-unfolding after accepted imageAfter acceptedImage AllHanded
+unfolding afterCalls acceptedPairs imageAfter acceptedImage AllHanded
 run s e [] h = record { held = e; image = refl; pairs = refl }
 run s e (c ∷ cs) h =
     let i = run (answered desk s c .answer .session) (call-held s e c (h .0)) cs (h .1) in
@@ -73,7 +73,7 @@ module _ (key : List ℕ) (R t : ℕ) where
   abbrev pub reached : List ℕ → List Call → List ℕ
   reached i cs = imageAfter (opensImage key R t i .image) cs
 
-  abbrev pub passed : List ℕ → List Call → List Pair
+  abbrev pub passed : List ℕ → List Call → List SealedPair
   passed i cs = acceptedImage (opensImage key R t i .image) cs
 
   abbrev begun : Session
@@ -93,15 +93,15 @@ module _ (key : List ℕ) (R t : ℕ) where
         ran = run begun (open-held key R t k (opened .0)) cs h
 
         -- After any mixture of calls from an accepted open, refused ones too, the image is that of the session after them.
-        pub image-after : reached i cs ≡ imageOf (after desk begun cs)
+        pub image-after : reached i cs ≡ imageOf (afterCalls desk begun cs)
         image-after = rw (opened .1) (ran .image)
 
-        same-pairs : passed i cs ≡ accepted desk begun cs
+        same-pairs : passed i cs ≡ acceptedPairs desk begun cs
         same-pairs = rw (opened .1) (ran .pairs)
 
         -- Demand 3 over images: count, lanes and outputs are read off the history of the pairs that were accepted.
-        pub image-tells : Told desk R t key (passed i cs) (sessionOf (reached i cs))
-        image-tells = rw (image-after, same-pairs, session-image (after desk begun cs) (ran .held)) (history-tells desk key R t cs (opened .0))
+        pub image-tells : Tells desk R t key (passed i cs) (sessionOf (reached i cs))
+        image-tells = rw (image-after, same-pairs, session-image (afterCalls desk begun cs) (ran .held)) (history-tells desk key R t cs (opened .0))
 
     module _ (i i′ : List ℕ) (e : opensImage key R t i .number ≡ 0) (e′ : opensImage key R t i′ .number ≡ 0) (cs ds : List Call) (u : AllHanded cs) (v : AllHanded ds)
         (m : map content (passed i cs) ≡ map content (passed i′ ds)) where

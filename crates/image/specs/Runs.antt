@@ -3,7 +3,7 @@ use Prim.Native.Nat.{ℕ, _<_}
 use mathlib.Core.List.{List, [], _∷_, _++_}
 use lib.ListN.{length, getD, take, drop}
 use Rattle.refusal.specs.Rows.{by}
-use Rattle.spongewrap.specs.History.{Call, Pair, pairWith}
+use Rattle.spongewrap.specs.History.{Call, SealedPair, pairWith}
 use Rattle.spongewrap.specs.History.Call.{wrapping, unwrapping}
 use Rattle.image.specs.Image.{sessionOf}
 use Rattle.image.specs.Calls.{Seen, wrapsImage, unwrapsImage}
@@ -18,7 +18,7 @@ imageAfter i [] = i
 imageAfter i (c ∷ cs) = imageAfter (callsImage i c .image) cs
 
 -- the pairs that were accepted
-unfoldable pub acceptedImage : List ℕ → List Call → List Pair
+unfoldable pub acceptedImage : List ℕ → List Call → List SealedPair
 acceptedImage i [] = []
 acceptedImage i (c ∷ cs) =
     by (callsImage i c .number) [] (pairWith (sessionOf i .tag) c (callsImage i c .out) ∷ []) ++ acceptedImage (callsImage i c .image) cs

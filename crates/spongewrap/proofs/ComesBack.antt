@@ -8,14 +8,14 @@ use lib.ListN.{length, getD, drop}
 use Rattle.sponge.specs.Sponge.{sponge}
 use Rattle.duplex.specs.Strings.{cut}
 use Rattle.spongewrap.specs.Sessions.{opens, seen, wraps, unwraps}
-use Rattle.spongewrap.specs.History.{Call, Pair, content, after, accepted, pairBlocks, pairsBlocks, history, Told}
+use Rattle.spongewrap.specs.History.{Call, SealedPair, content, afterCalls, acceptedPairs, pairBlocks, pairsBlocks, history, Tells}
 use Rattle.spongewrap.specs.Kinds.{Kind}
 use Rattle.spongewrap.specs.declared.Session.{Session}
 use Rattle.spongewrap.proofs.Theorems.{text, mark, wrap-unwrap}
 use Rattle.spongewrap.proofs.Histories.{history-tells}
 
 -- the blocks of some pairs go by their headers and bodies
-same-blocks : (R t : ℕ) (ps qs : List Pair) → map content ps ≡ map content qs → (pairsBlocks R t ps ≡ pairsBlocks R t qs) × (length ps ≡ length qs)
+same-blocks : (R t : ℕ) (ps qs : List SealedPair) → map content ps ≡ map content qs → (pairsBlocks R t ps ≡ pairsBlocks R t qs) × (length ps ≡ length qs)
 unfolding pairsBlocks pairBlocks
 same-blocks R t [] [] e = (refl, refl)
 same-blocks R t [] (q ∷ qs) e = absurd (omega (arith, ap length e))
@@ -32,7 +32,7 @@ parts u v w x y = cc
 
 module _ (K : Kind) where
   -- what is told of two sessions makes them one, where the headers and bodies are the same
-  told-same : (R t : ℕ) (key : List ℕ) (ps qs : List Pair) (s r : Session) → map content ps ≡ map content qs → Told K R t key ps s → Told K R t key qs r → s ≡ r
+  told-same : (R t : ℕ) (key : List ℕ) (ps qs : List SealedPair) (s r : Session) → map content ps ≡ map content qs → Tells K R t key ps s → Tells K R t key qs r → s ≡ r
   unfolding history
   told-same R t key ps qs s r e x y =
       let z = same-blocks R t ps qs e in
@@ -45,12 +45,12 @@ module _ (K : Kind) where
     begun = opens K key R t .session
 
     -- Two runs of calls from one open in which the same headers and bodies were accepted in the same order end in the same session.
-    pub same-history : (cs ds : List Call) → map content (accepted K begun cs) ≡ map content (accepted K begun ds) → after K begun cs ≡ after K begun ds
+    pub same-history : (cs ds : List Call) → map content (acceptedPairs K begun cs) ≡ map content (acceptedPairs K begun ds) → afterCalls K begun cs ≡ afterCalls K begun ds
     same-history cs ds m = told-same R t key _ _ _ _ m (history-tells K key R t cs e) (history-tells K key R t ds e)
 
     -- Under the same key, settings and earlier pairs, what one end wrapped comes back exactly at the other, and both stand at one session again.
-    pub comes-back : (cs ds : List Call) → map content (accepted K begun cs) ≡ map content (accepted K begun ds)
-        → (h b o o′ : List ℕ) → wraps K (after K begun cs) h b o .answer .number ≡ 0 → length b ≤ length o′
-        → unwraps K (after K begun ds) h (text K (after K begun cs) h b o) (mark K (after K begun cs) h b o) o′
-        ≡ seen (record { number = 0; session = wraps K (after K begun cs) h b o .answer .session }) (b ++ drop (length b) o′)
-    comes-back cs ds m h b o o′ a l = rw (sym (same-history cs ds m)) (wrap-unwrap K (after K begun cs) h b o a o′ l)
+    pub comes-back : (cs ds : List Call) → map content (acceptedPairs K begun cs) ≡ map content (acceptedPairs K begun ds)
+        → (h b o o′ : List ℕ) → wraps K (afterCalls K begun cs) h b o .answer .number ≡ 0 → length b ≤ length o′
+        → unwraps K (afterCalls K begun ds) h (text K (afterCalls K begun cs) h b o) (mark K (afterCalls K begun cs) h b o) o′
+        ≡ seen (record { number = 0; session = wraps K (afterCalls K begun cs) h b o .answer .session }) (b ++ drop (length b) o′)
+    comes-back cs ds m h b o o′ a l = rw (sym (same-history cs ds m)) (wrap-unwrap K (afterCalls K begun cs) h b o a o′ l)

@@ -11,7 +11,7 @@ use Rattle.sponge.specs.Pieces.{piece, blocksOf, before}
 use Rattle.sponge.specs.Sponge.{zeros, absorb, sponge}
 use Rattle.sponge.proofs.Padding.{length-padded}
 use Rattle.sponge.proofs.Pieces.{absorb-append}
-use Rattle.duplex.specs.Duplex.{framed, after as drawn-after}
+use Rattle.duplex.specs.Duplex.{framed, stateAfter}
 use Rattle.duplex.specs.Strings.{blocks, front, cut, absorbed}
 use Rattle.duplex.proofs.Strings.{length-cut}
 use Rattle.duplex.proofs.Seal.{length-sealed}
@@ -20,7 +20,7 @@ use Rattle.duplex.proofs.Masks.{sealed-piece, opened-piece}
 use Rattle.duplex.proofs.Draw.{after-blocks, drawn-piece}
 use Rattle.spongewrap.specs.SpongeWrap.{keyed, headed, bodied, ciphertext, tagged, left, plaintext}
 use Rattle.spongewrap.specs.Sessions.{none, fresh, opens, cost, advanced, next, sealing, tagOf, recovered, Seen}
-use Rattle.spongewrap.specs.History.{Call, answered, Pair, pairWith, pairOf, after, accepted, blanks, pairBlocks, pairsBlocks, history, pairsCost, Whole, output, Output, Told}
+use Rattle.spongewrap.specs.History.{Call, answered, SealedPair, pairWith, pairOf, afterCalls, acceptedPairs, blanks, pairBlocks, pairsBlocks, history, pairsCost, WholeBlocks, output, Output, Tells}
 use Rattle.spongewrap.specs.History.Call.{wrapping, unwrapping}
 use Rattle.spongewrap.specs.Kinds.{Kind}
 use Rattle.spongewrap.specs.declared.Session.{Session}
@@ -35,7 +35,7 @@ unfolding sponge
 more w f B C = sym (absorb-append w f zeros B C)
 
 after-is : (w : ℕ) (f : List ℕ → List ℕ) (R : ℕ) (B : List (List ℕ)) (n : ℕ)
-    → drawn-after w f R (sponge w f B) n ≡ sponge w f (B ++ replicate (before (R - 1) n) (framed R 0 []))
+    → stateAfter w f R (sponge w f B) n ≡ sponge w f (B ++ replicate (before (R - 1) n) (framed R 0 []))
 unfolding sponge
 after-is w f R B n = after-blocks w f R zeros B n
 
@@ -53,7 +53,7 @@ module _ (w : ℕ) (f : List ℕ → List ℕ) (R : ℕ) (B : List (List ℕ)) (
   unfolding left blanks blocks
   left-is b t =
       let q : suc (before (R - 1) t) - 1 ≡ before (R - 1) t = omega arith in
-      ap (λ (a : List ℕ). drawn-after w f R a t) (bodied-is b)
+      ap (λ (a : List ℕ). stateAfter w f R a t) (bodied-is b)
       ∙ after-is w f R (B ++ cut R 0 1 h ++ cut R 1 0 b) t
       ∙ ap (sponge w f) (rw q (simp append-assoc))
 
@@ -87,48 +87,48 @@ module _ (w : ℕ) (f : List ℕ → List ℕ) (R : ℕ) (B : List (List ℕ)) (
 
 -- ---- how many blocks, and how long
 
-length-pair : (R t : ℕ) (p : Pair) → length (pairBlocks R t p) ≡ cost R t (length (p .header)) (length (p .body))
+length-pair : (R t : ℕ) (p : SealedPair) → length (pairBlocks R t p) ≡ cost R t (length (p .header)) (length (p .body))
 unfolding pairBlocks blanks cost
 length-pair R t p =
     length-append (cut R 0 1 (p .header) ++ cut R 1 0 (p .body)) (replicate (blocks R t - 1) (framed R 0 []))
     ∙ omega (arith, length-append (cut R 0 1 (p .header)) (cut R 1 0 (p .body)), length-cut R 0 1 (p .header), length-cut R 1 0 (p .body), length-replicate (blocks R t - 1) (framed R 0 []))
 
-length-pairs : (R t : ℕ) (ps : List Pair) → length (pairsBlocks R t ps) ≡ pairsCost R t ps
+length-pairs : (R t : ℕ) (ps : List SealedPair) → length (pairsBlocks R t ps) ≡ pairsCost R t ps
 unfolding pairsBlocks pairsCost
 length-pairs R t [] = refl
 length-pairs R t (p ∷ ps) = rw (length-append, length-pair, length-pairs R t ps)
 
-whole-append : (R : ℕ) (A B : List (List ℕ)) → Whole R A → Whole R B → Whole R (A ++ B)
-unfolding Whole
+whole-append : (R : ℕ) (A B : List (List ℕ)) → WholeBlocks R A → WholeBlocks R B → WholeBlocks R (A ++ B)
+unfolding WholeBlocks
 whole-append R [] B u v = v
 whole-append R (a ∷ A) B u v = (u .0, whole-append R A B (u .1) v)
 
 module _ (R : ℕ) (r : 1 < R) where
-  whole-framed : (b : ℕ) (p : List ℕ) → length p ≤ R - 1 → Whole R (framed R b p ∷ [])
-  unfolding Whole framed
+  whole-framed : (b : ℕ) (p : List ℕ) → length p ≤ R - 1 → WholeBlocks R (framed R b p ∷ [])
+  unfolding WholeBlocks framed
   whole-framed b p l = (length-padded R (2 + b) p (omega arith), tt)
 
   length-piece : (s : List ℕ) (k : ℕ) → length (piece (R - 1) s k) ≤ R - 1
   unfolding piece
   length-piece s k = omega (arith, length-take (R - 1) (drop (k * (R - 1)) s))
 
-  whole-front : (b : ℕ) (s : List ℕ) (k : ℕ) → Whole R (front R b s k)
+  whole-front : (b : ℕ) (s : List ℕ) (k : ℕ) → WholeBlocks R (front R b s k)
   unfolding front blocksOf
-  whole-front b s zero = unfold Whole in tt
+  whole-front b s zero = unfold WholeBlocks in tt
   whole-front b s (suc k) = whole-append R _ _ (whole-front b s k) (whole-framed b (piece (R - 1) s k) (length-piece s k))
 
-  whole-cut : (mid last : ℕ) (s : List ℕ) → Whole R (cut R mid last s)
+  whole-cut : (mid last : ℕ) (s : List ℕ) → WholeBlocks R (cut R mid last s)
   unfolding cut
   whole-cut mid last s = whole-append R _ _ (whole-front mid s _) (whole-framed last _ (length-piece s _))
 
-  whole-blanks : (k : ℕ) → Whole R (blanks R k)
-  unfolding blanks Whole
+  whole-blanks : (k : ℕ) → WholeBlocks R (blanks R k)
+  unfolding blanks WholeBlocks
   whole-blanks zero = tt
   whole-blanks (suc k) = (whole-framed 0 [] (omega arith) .0, whole-blanks k)
 
-  whole-pairs : (t : ℕ) (ps : List Pair) → Whole R (pairsBlocks R t ps)
+  whole-pairs : (t : ℕ) (ps : List SealedPair) → WholeBlocks R (pairsBlocks R t ps)
   unfolding pairsBlocks pairBlocks
-  whole-pairs t [] = unfold Whole in tt
+  whole-pairs t [] = unfold WholeBlocks in tt
   whole-pairs t (p ∷ ps) =
       whole-append R _ _ (whole-append R _ _ (whole-append R _ _ (whole-cut 0 1 (p .header)) (whole-cut 1 0 (p .body))) (whole-blanks _)) (whole-pairs t ps)
 
@@ -143,7 +143,7 @@ module _ (K : Kind) where
     lanes : s .lanes ≡ sponge (K .w) (K .f) B
 
   module _ (R t : ℕ) (B : List (List ℕ)) (n : ℕ) (s : Session) (a : Agrees R t B n s) where
-    next-agrees : (p : Pair) → Agrees R t (B ++ pairBlocks R t p) (n + 1) (next K s (p .header) (p .body))
+    next-agrees : (p : SealedPair) → Agrees R t (B ++ pairBlocks R t p) (n + 1) (next K s (p .header) (p .body))
     unfolding next advanced
     next-agrees p =
         record {
@@ -196,32 +196,32 @@ module _ (K : Kind) where
   -- ---- a run of calls
 
   -- each pair's output, at its point
-  Outputs : ℕ → ℕ → List (List ℕ) → List Pair → Type 0
+  Outputs : ℕ → ℕ → List (List ℕ) → List SealedPair → Type 0
   Outputs R t B [] = Unit {0}
   Outputs R t B (p ∷ ps) = Output (K .w) (K .f) R t B p × Outputs R t (B ++ pairBlocks R t p) ps
 
   -- what holds where the pairs ps have been accepted since, and the session is s
-  abbrev Ran : ℕ → ℕ → List (List ℕ) → ℕ → List Pair → Session → Type 0
+  abbrev Ran : ℕ → ℕ → List (List ℕ) → ℕ → List SealedPair → Session → Type 0
   Ran R t B n ps s = Agrees R t (B ++ pairsBlocks R t ps) (n + length ps) s × Outputs R t B ps
 
-  run : (R t : ℕ) (B : List (List ℕ)) (n : ℕ) (s : Session) → Agrees R t B n s → (cs : List Call) → Ran R t B n (accepted K s cs) (after K s cs)
-  unfolding accepted by after pairsBlocks Outputs
+  run : (R t : ℕ) (B : List (List ℕ)) (n : ℕ) (s : Session) → Agrees R t B n s → (cs : List Call) → Ran R t B n (acceptedPairs K s cs) (afterCalls K s cs)
+  unfolding acceptedPairs by afterCalls pairsBlocks Outputs
   run R t B n s a [] = (rw (append-nil, add-zero) a, tt)
   run R t B n s a (c ∷ cs) = go (λ C m. λ g. run R t C m s′ g cs) (answered K s c .answer .number) refl
     where
       s′ : Session
       s′ = answered K s c .answer .session
 
-      go : ((C : List (List ℕ)) (m : ℕ) → Agrees R t C m s′ → Ran R t C m (accepted K s′ cs) (after K s′ cs))
-          → (m : ℕ) → answered K s c .answer .number ≡ m → Ran R t B n (by m [] (pairOf K s c ∷ []) ++ accepted K s′ cs) (after K s′ cs)
+      go : ((C : List (List ℕ)) (m : ℕ) → Agrees R t C m s′ → Ran R t C m (acceptedPairs K s′ cs) (afterCalls K s′ cs))
+          → (m : ℕ) → answered K s c .answer .number ≡ m → Ran R t B n (by m [] (pairOf K s c ∷ []) ++ acceptedPairs K s′ cs) (afterCalls K s′ cs)
       go on zero e =
           let i = on (B ++ pairBlocks R t (pairOf K s c)) (n + 1) (call-agrees R t B n s a c e) in
-          let k : n + suc (length (accepted K s′ cs)) ≡ n + 1 + length (accepted K s′ cs) = omega arith in
+          let k : n + suc (length (acceptedPairs K s′ cs)) ≡ n + 1 + length (acceptedPairs K s′ cs) = omega arith in
           (rw (← append-assoc, k) (i .0), (call-output R t B n s a c e, i .1))
       go on (suc m) e = on B n (rw (call-kept R t B n s a c (λ z. omega arith)) a)
 
   -- the pair p among others
-  among : (R t : ℕ) (B : List (List ℕ)) (before rest : List Pair) (p : Pair) → Outputs R t B (before ++ p ∷ rest) → Output (K .w) (K .f) R t (B ++ pairsBlocks R t before) p
+  among : (R t : ℕ) (B : List (List ℕ)) (before rest : List SealedPair) (p : SealedPair) → Outputs R t B (before ++ p ∷ rest) → Output (K .w) (K .f) R t (B ++ pairsBlocks R t before) p
   unfolding Outputs pairsBlocks
   among R t B [] rest p o = rw append-nil (o .0)
   among R t B (q ∷ before) rest p o = rw (← append-assoc) (among R t (B ++ pairBlocks R t q) before rest p (o .1))
@@ -236,11 +236,11 @@ module _ (K : Kind) where
   -- blocks of the key and of each accepted header and body and the extra blocks of tags; exactly that many padded blocks, read off the
   -- history and absorbed by one plain sponge, leave its lanes; and every keystream piece and tag piece is that sponge's output at its point.
   pub history-tells : (key : List ℕ) (R t : ℕ) (cs : List Call) → opens K key R t .number ≡ 0
-      → Told K R t key (accepted K (opens K key R t .session) cs) (after K (opens K key R t .session) cs)
+      → Tells K R t key (acceptedPairs K (opens K key R t .session) cs) (afterCalls K (opens K key R t .session) cs)
   unfolding history
   history-tells key R t cs e =
       let s = opens K key R t .session in
-      let ps = accepted K s cs in
+      let ps = acceptedPairs K s cs in
       let a = run R t (cut R 1 0 key) 0 s (opened-agrees key R t e) cs in
       let r = open-fits K (length key) R t (sym (open-number K key R t) ∙ e) .rates in
       let n : length (history R t key ps) ≡ blocks R (length key) + pairsCost R t ps =

@@ -9,7 +9,7 @@ use borrow.Author.Tests.{not-true, not-false}
 use Rattle.refusal.specs.Rows.{pick, first, by}
 use Rattle.refusal.proofs.Rows.{kept}
 use Rattle.compare.specs.Same.{same}
-use Rattle.duplex.specs.Duplex.{Rate, drawn, after}
+use Rattle.duplex.specs.Duplex.{Rate, drawn, stateAfter}
 use Rattle.duplex.specs.Strings.{absorbed, sealed, opened}
 use Rattle.duplex.proofs.Seal.{length-sealed}
 use Rattle.duplex.proofs.Open.{length-opened}
@@ -24,13 +24,13 @@ use Rattle.spongewrap.proofs.Passed.{wrap-fits, unwrap-fits, before-tag
 -- ---- any call
 
 module _ (n : ℕ) (s s′ : Session) (o x : List ℕ) where
-  pub refused : (n ≡ 0 → ⊥) → settled n s o s′ x ≡ seen (record { number = n; session = s }) o
+  pub settled-refused : (n ≡ 0 → ⊥) → settled n s o s′ x ≡ seen (record { number = n; session = s }) o
   unfolding settled
-  refused d = rw (kept n s s′ d, kept n o (x ++ drop (length x) o) d)
+  settled-refused d = rw (kept n s s′ d, kept n o (x ++ drop (length x) o) d)
 
-  pub accepted : n ≡ 0 → settled n s o s′ x ≡ seen (record { number = 0; session = s′ }) (x ++ drop (length x) o)
+  pub settled-accepted : n ≡ 0 → settled n s o s′ x ≡ seen (record { number = 0; session = s′ }) (x ++ drop (length x) o)
   unfolding settled by
-  accepted e = rw e
+  settled-accepted e = rw e
 
 module _ (K : Kind) where
   -- ---- open
@@ -59,7 +59,7 @@ module _ (K : Kind) where
 
   -- a pair sealed from the state a that its header left
   module _ (s : Session) (h b a : List ℕ) (p : a ≡ headed (K .w) (K .f) (s .rate) (s .lanes) h) where
-    pub next-is : (t : Session) (l : List ℕ) → l ≡ after (K .w) (K .f) (s .rate) (absorbed (K .w) (K .f) (s .rate) a 1 0 b) (s .tag)
+    pub next-is : (t : Session) (l : List ℕ) → l ≡ stateAfter (K .w) (K .f) (s .rate) (absorbed (K .w) (K .f) (s .rate) a 1 0 b) (s .tag)
         → t ≡ advanced s l (length h) (length b) → t ≡ next K s h b
     unfolding next left bodied
     next-is t l q u = rw (u, q, p)
@@ -73,14 +73,14 @@ module _ (K : Kind) where
   module _ (s : Session) (h b o : List ℕ) (n : ℕ) (e : n ≡ wrapRefusal K s (length h) (length b) (length o)) where
     pub wraps-refused : (n ≡ 0 → ⊥) → seen (record { number = n; session = s }) o ≡ wraps K s h b o
     unfolding wraps
-    wraps-refused d = rw (← e) (sym (refused n s (next K s h b) o _ d))
+    wraps-refused d = rw (← e) (sym (settled-refused n s (next K s h b) o _ d))
 
     pub wraps-taken : n ≡ 0 → (t : Session) (o′ : List ℕ) → t ≡ next K s h b → o′ ≡ (sealing K s h b ++ tagOf K s h b) ++ drop (length b + s .tag) o
         → seen (record { number = 0; session = t }) o′ ≡ wraps K s h b o
     unfolding wraps
     wraps-taken d t o′ u x =
         let f = length-wrapped s h b (wrap-fits K s (length h) (length b) (length o) (sym e ∙ d) .0 .rate) in
-        rw (← e, x, u, ← f) (sym (accepted n s (next K s h b) o (sealing K s h b ++ tagOf K s h b) d))
+        rw (← e, x, u, ← f) (sym (settled-accepted n s (next K s h b) o (sealing K s h b ++ tagOf K s h b) d))
 
   -- ---- unwrap
 
@@ -93,7 +93,7 @@ module _ (K : Kind) where
     unfolding unwraps
     unwraps-refused n e d =
         rw (← before-tag K s (length h) (length c) (length o) (foreign K s h c t) n e d)
-        (sym (refused n s (next K s h (recovered K s h c)) o (recovered K s h c) d))
+        (sym (settled-refused n s (next K s h (recovered K s h c)) o (recovered K s h c) d))
 
     -- a is the state that the header left
     module _ (ready : first (readyRows K s (length h) (length c) (length o)) ≡ 0) (a : List ℕ) (right : Bool) (p : a ≡ headed (K .w) (K .f) (s .rate) (s .lanes) h)
@@ -107,7 +107,7 @@ module _ (K : Kind) where
       unwraps-other f = rw (number, not-true right f)
 
       pub unwraps-taken : not right ≡ false → (l : List ℕ) (s′ : Session) (o′ : List ℕ)
-          → l ≡ after (K .w) (K .f) (s .rate) (absorbed (K .w) (K .f) (s .rate) a 1 0 (opened (K .w) (K .f) (s .rate) a c)) (s .tag)
+          → l ≡ stateAfter (K .w) (K .f) (s .rate) (absorbed (K .w) (K .f) (s .rate) a 1 0 (opened (K .w) (K .f) (s .rate) a c)) (s .tag)
           → s′ ≡ advanced s l (length h) (length c) → o′ ≡ opened (K .w) (K .f) (s .rate) a c ++ drop (length c) o
           → seen (record { number = 0; session = s′ }) o′ ≡ unwraps K s h c t o
       unfolding unwraps pick settled by next left bodied recovered plaintext

@@ -6,7 +6,7 @@ use mathlib.Core.List.{List, _++_}
 use lib.ListN.{length, take, drop, length-append, length-drop}
 use lib.Seq.{length-take-le, take-at}
 use Rattle.sponge.proofs.Pieces.{laid}
-use Rattle.duplex.specs.Duplex.{Rate, drawn, after}
+use Rattle.duplex.specs.Duplex.{Rate, drawn, stateAfter}
 use Rattle.duplex.specs.Strings.{absorbed, sealed}
 use Rattle.duplex.proofs.Seal.{length-sealed}
 use Rattle.duplex.proofs.Draw.{length-drawn}
@@ -22,7 +22,7 @@ module _ (w : ℕ) (f : List ℕ → List ℕ) (R : ℕ) (a b d out X st : List 
       (omega (arith, length-drop (length b) out, ap length h, length-append (sealed w f R a b) (drop (length b) d), length-sealed w f R a b (r .room), length-drop (length b) d))
       ∙ omega arith
 
-  pub state-is : {l : List ℕ} → l ≡ after w f R st (length (take (e - length b) (drop (length b) out))) → l ≡ after w f R (absorbed w f R a 1 0 b) n
+  pub state-is : {l : List ℕ} → l ≡ stateAfter w f R st (length (take (e - length b) (drop (length b) out))) → l ≡ stateAfter w f R (absorbed w f R a 1 0 b) n
   state-is q = rw (← t, ← part) q
 
   pub out-is : X ≡ drawn w f R st (length (take (e - length b) (drop (length b) out)))

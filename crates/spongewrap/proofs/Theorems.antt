@@ -17,7 +17,7 @@ use Rattle.spongewrap.specs.Sessions.{none, fresh, opens, next, sealing,
 use Rattle.spongewrap.specs.Kinds.{Kind}
 use Rattle.spongewrap.specs.declared.Session.{Session}
 use Rattle.spongewrap.proofs.Passed.{wrap-fits, unwrap-fits, may-unwrap, at-tag, all-but-tag}
-use Rattle.spongewrap.proofs.Settle.{refused, accepted, length-sealing, length-tagOf, length-wrapped, length-recovered}
+use Rattle.spongewrap.proofs.Settle.{settled-refused, settled-accepted, length-sealing, length-tagOf, length-wrapped, length-recovered}
 
 -- ---- any call
 
@@ -87,7 +87,7 @@ module _ (K : Kind) where
   unfolding unwraps
   eight s o h c t e =
       let n : unwrapRefusal K s (length h) (length c) (length o) (foreign K s h c t) ≡ 8 = sym (unwrap-number s h c t o) ∙ e in
-      refused _ s _ o _ (λ z. omega arith) ∙ rw n
+      settled-refused _ s _ o _ (λ z. omega arith) ∙ rw n
 
   -- All refusals numbered 8 on one session and one lent output are the same, whatever was handed over.
   pub eights-alike : (s : Session) (o h c t h′ c′ t′ : List ℕ) → unwraps K s h c t o .answer .number ≡ 8 → unwraps K s h′ c′ t′ o .answer .number ≡ 8
@@ -100,13 +100,13 @@ module _ (K : Kind) where
   pub wrapped-is : (s : Session) (h b o : List ℕ) → wraps K s h b o .answer .number ≡ 0
       → wraps K s h b o ≡ seen (record { number = 0; session = next K s h b }) ((sealing K s h b ++ tagOf K s h b) ++ drop (length (sealing K s h b ++ tagOf K s h b)) o)
   unfolding wraps
-  wrapped-is s h b o e = accepted _ s (next K s h b) o _ (sym (wrap-number s h b o) ∙ e)
+  wrapped-is s h b o e = settled-accepted _ s (next K s h b) o _ (sym (wrap-number s h b o) ∙ e)
 
   -- An accepted unwrap, whole.
   pub unwrapped-is : (s : Session) (h c t o : List ℕ) → unwraps K s h c t o .answer .number ≡ 0
       → unwraps K s h c t o ≡ seen (record { number = 0; session = next K s h (recovered K s h c) }) (recovered K s h c ++ drop (length (recovered K s h c)) o)
   unfolding unwraps
-  unwrapped-is s h c t o e = accepted _ s (next K s h (recovered K s h c)) o _ (sym (unwrap-number s h c t o) ∙ e)
+  unwrapped-is s h c t o e = settled-accepted _ s (next K s h (recovered K s h c)) o _ (sym (unwrap-number s h c t o) ∙ e)
 
   -- An accepted wrap writes only the ciphertext and the tag, over the first bytes of the lent output.
   pub wrap-first : (s : Session) (h b o : List ℕ) → wraps K s h b o .answer .number ≡ 0

@@ -4,7 +4,7 @@
 use Prim.Native.Nat.{ℕ}
 use mathlib.Core.List.{List}
 use Rattle.sponge.specs.Sponge.{zeros}
-use Rattle.duplex.specs.Duplex.{drawn, after}
+use Rattle.duplex.specs.Duplex.{drawn, stateAfter}
 use Rattle.duplex.specs.Strings.{absorbed, sealed, opened}
 
 module _ (w : ℕ) (f : List ℕ → List ℕ) (R : ℕ) where
@@ -29,7 +29,7 @@ module _ (w : ℕ) (f : List ℕ → List ℕ) (R : ℕ) where
   tagged a header body n = drawn w f R (bodied a header body) n
 
   unfoldable pub left : List ℕ → List ℕ → List ℕ → ℕ → List ℕ
-  left a header body n = after w f R (bodied a header body) n
+  left a header body n = stateAfter w f R (bodied a header body) n
 
   -- unwrap: the body of a ciphertext
   unfoldable pub plaintext : List ℕ → List ℕ → List ℕ → List ℕ

@@ -9,7 +9,7 @@ ghost use lib.ListN.{length, drop};
 ghost use Rattle.refusal.specs.Rows.{first};
 ghost use Rattle.compare.specs.Same.{same};
 ghost use Rattle.keccak.specs.Rounds.{f1600};
-ghost use Rattle.duplex.specs.Duplex.{Rate, drawn, after};
+ghost use Rattle.duplex.specs.Duplex.{Rate, drawn, stateAfter};
 ghost use Rattle.duplex.specs.Strings.{blocks, absorbed, sealed, opened};
 ghost use Rattle.spongewrap.specs.SpongeWrap.{headed};
 ghost use Rattle.spongewrap.specs.Refusals.{mostSize, mostHeader, mostBody, mostPairs, readyRows, Fits};
@@ -118,7 +118,7 @@ fn headed(a: [u64; 25], header: &[u8], rate: usize) -> [u64; 25]
 // The ciphertext of a body, then a tag of n bytes, from the state that the header left.
 fn seal_pair(a: [u64; 25], body: &[u8], n: usize, rate: usize, out: &mut [u8]) -> [u64; 25]
     requires { ⌜ Rate 64 rate × (length (now body) + n ≤ length (now out)) ⌝ }
-    ensures { λ r. ⌜ (r ≡ after 64 f1600 rate (absorbed 64 f1600 rate a 1 0 (now (body .entry))) n) × (now (out .exit) ≡ (sealed 64 f1600 rate a (now (body .entry)) ++ drawn 64 f1600 rate (absorbed 64 f1600 rate a 1 0 (now (body .entry))) n) ++ drop (length (now (body .entry)) + n) (now (out .entry))) ⌝ }
+    ensures { λ r. ⌜ (r ≡ stateAfter 64 f1600 rate (absorbed 64 f1600 rate a 1 0 (now (body .entry))) n) × (now (out .exit) ≡ (sealed 64 f1600 rate a (now (body .entry)) ++ drawn 64 f1600 rate (absorbed 64 f1600 rate a 1 0 (now (body .entry))) n) ++ drop (length (now (body .entry)) + n) (now (out .entry))) ⌝ }
 {
     let at = body.len();
     let e = at + n;
@@ -159,7 +159,7 @@ struct Checked {
 // Whether `tag` is the tag of n bytes that the state `a` gives.
 fn check_tag(a: [u64; 25], tag: &[u8], n: usize, rate: usize) -> Checked
     requires { ⌜ Rate 64 rate × (n ≤ mostSize) ⌝ }
-    ensures { λ r. ⌜ (r .right ≡ same (now (tag .entry)) (drawn 64 f1600 rate a n)) × (r .lanes ≡ after 64 f1600 rate a n) ⌝ }
+    ensures { λ r. ⌜ (r .right ≡ same (now (tag .entry)) (drawn 64 f1600 rate a n)) × (r .lanes ≡ stateAfter 64 f1600 rate a n) ⌝ }
 {
     let mut due = [0u8; 256];
     let lanes = duplex::drawn_into(a, rate, &mut due[..n]);
@@ -170,7 +170,7 @@ fn check_tag(a: [u64; 25], tag: &[u8], n: usize, rate: usize) -> Checked
 // Whether `tag` is the tag of n bytes that a ciphertext has, from the state that the header left. Nothing is written.
 fn check_pair(a: [u64; 25], cipher: &[u8], tag: &[u8], n: usize, rate: usize) -> Checked
     requires { ⌜ Rate 64 rate × (n ≤ mostSize) ⌝ }
-    ensures { λ r. ⌜ (r .right ≡ same (now (tag .entry)) (drawn 64 f1600 rate (absorbed 64 f1600 rate a 1 0 (opened 64 f1600 rate a (now (cipher .entry)))) n)) × (r .lanes ≡ after 64 f1600 rate (absorbed 64 f1600 rate a 1 0 (opened 64 f1600 rate a (now (cipher .entry)))) n) ⌝ }
+    ensures { λ r. ⌜ (r .right ≡ same (now (tag .entry)) (drawn 64 f1600 rate (absorbed 64 f1600 rate a 1 0 (opened 64 f1600 rate a (now (cipher .entry)))) n)) × (r .lanes ≡ stateAfter 64 f1600 rate (absorbed 64 f1600 rate a 1 0 (opened 64 f1600 rate a (now (cipher .entry)))) n) ⌝ }
 {
     check_tag(duplex::peeked(a, cipher, rate), tag, n, rate)
 }

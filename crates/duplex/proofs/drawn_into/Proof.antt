@@ -6,7 +6,7 @@ use lib.ListN.{length}
 use Rattle.keccak.specs.Rounds.{f1600}
 use Rattle.sponge.proofs.Turns.{wrote-none}
 use Rattle.sponge.proofs.Squeeze.{given-length, Squeezed, squeezed-more, squeezed-last, squeezed-state}
-use Rattle.duplex.specs.Duplex.{blank, drawn, after}
+use Rattle.duplex.specs.Duplex.{blank, drawn, stateAfter}
 use Rattle.duplex.proofs.drawn_into.Statement.{statement}
 use Rattle.duplex.proofs.drawn_into.Tie as tie
 
@@ -23,7 +23,7 @@ loop-again : tie.Need-loop-again Inv-loop μ-loop
 loop-again c = (search needs, search needs, search needs, search (needs, squeezed-more))
 
 returns : tie.Need-returns Inv-loop μ-loop
-unfolding drawn after
+unfolding drawn stateAfter
 returns c = (search (needs, squeezed-state), search (needs, squeezed-last))
 
 pub drawn-into-spec : {M : Type 1} → statement M

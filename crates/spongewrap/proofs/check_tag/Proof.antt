@@ -5,7 +5,7 @@ use mathlib.Core.Path.{sym, ap, _∙_}
 use lib.ListN.{replicate}
 use lib.Seq.{length-take-le}
 use Rattle.keccak.specs.Rounds.{f1600}
-use Rattle.duplex.specs.Duplex.{after}
+use Rattle.duplex.specs.Duplex.{stateAfter}
 use Rattle.compare.specs.Same.{same}
 use Rattle.spongewrap.proofs.Steps.{front-fits, front-part, front-is}
 use Rattle.spongewrap.proofs.check_tag.Statement.{statement}
@@ -29,7 +29,7 @@ returns c =
     let a = c .before .before .before .before .before .before .args in
     let drawn-into = c .before .before .before .drawn-into .ensures in (
       c .is-same .ensures ∙ ap (same (a .tag .now)) (front-is 64 f1600 (a .rate) (a .n) (a .a) (replicate {A = ℕ} 256 0) _ (search needs) (search needs) (drawn-into .1)),
-      drawn-into .0 ∙ ap (after 64 f1600 (a .rate) (a .a)) (length-take-le (a .n) (replicate {A = ℕ} 256 0) (search needs)),
+      drawn-into .0 ∙ ap (stateAfter 64 f1600 (a .rate) (a .a)) (length-take-le (a .n) (replicate {A = ℕ} 256 0) (search needs)),
     )
 
 pub check-tag-spec : {M : Type 1} → statement M

@@ -1,6 +1,6 @@
 -- The checks in their order; past them, the parts of a whole entry are unwrapped, and the answer gets its place.
 use mathlib.Core.Path.{sym, _∙_}
-use Rattle.bundle.specs.Opening.{openTable, opens}
+use Rattle.bundle.specs.Opening.{openTable, opensEntry}
 use Rattle.bundle.proofs.Tables.{stops, settle-stops}
 use Rattle.bundle.proofs.Entries.{not-whole}
 use Rattle.bundle.proofs.Opened.{open-bad}
@@ -9,7 +9,7 @@ use Rattle.bundle.proofs.opening.open_entry.Statement.{statement}
 use Rattle.bundle.proofs.opening.open_entry.Tie as tie
 
 returns : tie.Need-returns
-unfolding opens openTable
+unfolding opensEntry openTable
 returns c =
     rw (c .refuse .ensures)
     (settle-stops _ _ _ _ _ _ _ (stops _ _ _ (c .before .before .own-refusal .ensures) (c .before .if1 .taken)) (c .before .if1 .taken))
