@@ -7,13 +7,13 @@ use contract.Lifetimes.{Lfts}
 use denote.Ref.{now}
 use lib.ListN.{length}
 use Rattle.duplex.specs.Object.{Seen, seen, duplexRefused}
-use Rattle.duplex.specs.declared.Duplexed.{Duplexed}
+use Rattle.duplex.specs.declared.Outcome.{Outcome}
 use Rattle.duplex.proofs.Object.{refusing}
 use Rattle.duplex.proofs.Duplex.new.Reads as new
 use Rattle.duplex.proofs.Duplex.duplexing.Reads as duplexing
 
 -- what is seen says both its parts
-parts : (r r′ : Duplexed) (o o′ : List ℕ) → seen r o ≡ seen r′ o′ → (r ≡ r′) × (o ≡ o′)
+parts : (r r′ : Outcome) (o o′ : List ℕ) → seen r o ≡ seen r′ o′ → (r ≡ r′) × (o ≡ o′)
 parts r r′ o o′ e = (ap (λ (v : Seen). v .answer) e, ap (λ (v : Seen). v .out) e)
 
 pub new-outcome : (κs : Lfts 0) (a x y s t : _) → new.Post κs a x s → new.Post κs a y t → x ≡ y

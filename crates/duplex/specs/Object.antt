@@ -8,14 +8,14 @@ use Rattle.keccak.specs.Rounds.{f1600}
 use Rattle.sponge.specs.Bytes.{bytes}
 use Rattle.duplex.specs.Duplex.{duplexing}
 use Rattle.duplex.specs.declared.Duplex.{Duplex}
-use Rattle.duplex.specs.declared.Duplexed.{Duplexed}
+use Rattle.duplex.specs.declared.Outcome.{Outcome}
 
 -- what is seen of a call: its answer, and the lent output as it is left
 pub record Seen : Type 0 where
-  pub answer : Duplexed
+  pub answer : Outcome
   pub out : List ℕ
 
-abbrev pub seen : Duplexed → List ℕ → Seen
+abbrev pub seen : Outcome → List ℕ → Seen
 seen a o = record { answer = a; out = o }
 
 -- the frame bit

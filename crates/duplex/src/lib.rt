@@ -18,7 +18,7 @@ pub struct Duplex {
 }
 
 // What a call answers: whether it was done, and the object after it.
-pub struct Duplexed {
+pub struct Outcome {
     pub done: bool,
     pub duplex: Duplex,
 }
@@ -35,12 +35,12 @@ impl Duplex {
     }
 
     // One duplexing: a piece of at most rate - 1 bytes goes in, and the lent slice, at most rate bytes, is filled with output.
-    pub fn duplexing(self, piece: &[u8], frame: bool, out: &mut [u8]) -> Duplexed
+    pub fn duplexing(self, piece: &[u8], frame: bool, out: &mut [u8]) -> Outcome
         ensures { λ r. ⌜ seen r (now (out .exit)) ≡ duplexes self (now (piece .entry)) frame (now (out .entry)) ⌝ }
     {
         let rate = self.rate as usize;
         if is_refused(rate, piece.len(), out.len()) {
-            return Duplexed {
+            return Outcome {
                 done: false,
                 duplex: self,
             };
@@ -52,7 +52,7 @@ impl Duplex {
             lanes,
             rate: self.rate,
         };
-        Duplexed { done: true, duplex }
+        Outcome { done: true, duplex }
     }
 }
 
