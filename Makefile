@@ -43,7 +43,7 @@ compare: probe desk
 	rt check lister
 	cd rust && $(CARGO) test --release --offline
 
-bench: probe
+bench: probe lib
 	cd rust && $(CARGO) run --release --offline --package bench
 
 # Every export with arbitrary bytes beside the reference: make soak SECONDS=600.

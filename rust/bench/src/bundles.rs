@@ -4,7 +4,7 @@
 use crate::messages::{row, Call};
 use crate::sessions::{opened, HEADER};
 use crate::table::{Maker, Row};
-use compare::bundles::{add, start, survey};
+use exports::probe::bundles::{add, start, survey};
 
 /// The most bytes that a bundle has.
 const MOST: usize = 1 << 24;

@@ -3,7 +3,7 @@
 use crate::messages::{row, Call, SIZES};
 use crate::openssl::Digest;
 use crate::table::{Maker, Row};
-use compare::hashes::{sha3_256, shake128};
+use exports::probe::hashes::{sha3_256, shake128};
 
 /// A hash to 32 bytes by the library and by OpenSSL.
 struct Hash {

@@ -2,7 +2,7 @@
 
 use crate::openssl::Digest;
 use crate::table::{Maker, Row, PERMUTATION};
-use compare::permutation::permute_times;
+use exports::probe::permutation::permute_times;
 use reference::keccak::permuted_1600;
 
 /// Permutations in one run.

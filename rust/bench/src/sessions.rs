@@ -2,7 +2,7 @@
 
 use crate::messages::{row, Call, SIZES};
 use crate::table::{Maker, Row};
-use compare::sessions::{open, unwrap, wrap};
+use exports::probe::sessions::{open, unwrap, wrap};
 
 /// The header of each pair.
 pub const HEADER: [u8; 16] = [0x42; 16];

@@ -1,123 +1,199 @@
-//! The exports of bundles. An answer that carries a place or a number of entries is a refusal's
-//! number, or 0, plus 256 times what it carries.
+//! Calls on bundles by both sides.
 
-extern "C" {
-    fn probe_survey(bundle: *const u8, bundle_length: usize) -> u64;
-    fn probe_entry_at(
-        bundle: *const u8,
-        bundle_length: usize,
-        place: u64,
-        entry: *mut u8,
-        entry_length: usize,
-    ) -> u8;
-    fn probe_calls_of(header: u64, body: u64) -> u64;
-    fn probe_open_entry(
-        image: *mut u8,
-        image_length: usize,
-        bundle: *const u8,
-        bundle_length: usize,
-        place: u64,
-        body: *mut u8,
-        body_length: usize,
-    ) -> u64;
-    fn probe_start(
-        image: *mut u8,
-        image_length: usize,
-        label: *const u8,
-        label_length: usize,
-        bundle: *mut u8,
-        bundle_length: usize,
-    ) -> u64;
-    fn probe_add(
-        image: *mut u8,
-        image_length: usize,
-        header: *const u8,
-        header_length: usize,
-        body: *const u8,
-        body_length: usize,
-        bundle: *mut u8,
-        bundle_length: usize,
-    ) -> u64;
-}
+use crate::buffers::{self, agreed, reading, seen};
+use crate::random::Random;
+use crate::sessions::{damage, flip, string};
+use reference::bundle::{self, Entry, Fault, Refused};
+use reference::desk::on_image;
+use reference::spongewrap::ROOM;
 
-/// Surveys a bundle; accepted, the answer carries the number of entries.
-#[inline]
-pub fn survey(bundle: &[u8]) -> u64 {
-    // SAFETY: pointer and length are those of one slice, lent for the call.
-    unsafe { probe_survey(bundle.as_ptr(), bundle.len()) }
-}
+/// What both sides leave of a call.
+pub type Seen = buffers::Seen<u64>;
 
-/// Writes the three numbers of the entry at a place: the lengths of header and body and the next
-/// place, eight bytes each. Answers 0, or 1, 2 or 3 for why there is none, or 6 for another length
-/// than 24.
-#[inline]
-pub fn entry_at(bundle: &[u8], place: u64, entry: &mut [u8]) -> u8 {
-    // SAFETY: each pointer and length are those of one slice, lent for the call.
-    unsafe {
-        probe_entry_at(
-            bundle.as_ptr(),
-            bundle.len(),
-            place,
-            entry.as_mut_ptr(),
-            entry.len(),
-        )
+/// An answer of the reference in the form that the library gives it.
+fn coded(answer: Result<u64, Refused>) -> u64 {
+    match answer {
+        Ok(value) => 256 * value,
+        Err(refusal) => refused(refusal.number.into(), refusal.place),
     }
 }
 
-/// The permutation calls of an entry with those lengths, without the key's.
-#[inline]
-pub fn calls_of(header: u64, body: u64) -> u64 {
-    // SAFETY: only numbers are passed.
-    unsafe { probe_calls_of(header, body) }
+/// The answer that refuses by a number at a place.
+pub fn refused(number: u64, place: u64) -> u64 {
+    number + 256 * place
 }
 
-/// Opens the entry at a place; accepted, the answer carries the next place.
-#[inline]
-pub fn open_entry(image: &mut [u8], bundle: &[u8], place: u64, body: &mut [u8]) -> u64 {
-    // SAFETY: each pointer and length are those of one slice, lent for the call.
-    unsafe {
-        probe_open_entry(
-            image.as_mut_ptr(),
-            image.len(),
-            bundle.as_ptr(),
-            bundle.len(),
-            place,
-            body.as_mut_ptr(),
-            body.len(),
-        )
-    }
+/// Surveys a bundle by both.
+pub fn surveyed(survey: impl FnOnce(&[u8]) -> u64, bundle: &[u8]) -> u64 {
+    let answer = reading([bundle], |[bundle]| survey(bundle));
+    assert_eq!(answer, coded(bundle::survey(bundle)), "answers differ");
+    answer
 }
 
-/// Starts a bundle with its entry zero.
-#[inline]
-pub fn start(image: &mut [u8], label: &[u8], bundle: &mut [u8]) -> u64 {
-    // SAFETY: each pointer and length are those of one slice, lent for the call.
-    unsafe {
-        probe_start(
-            image.as_mut_ptr(),
-            image.len(),
-            label.as_ptr(),
-            label.len(),
-            bundle.as_mut_ptr(),
-            bundle.len(),
-        )
-    }
+/// How many bytes the three numbers of an entry take.
+pub const NUMBERS: usize = 24;
+
+/// Looks at a place by both: the entry's three numbers go to a buffer that holds `room` before.
+pub fn looked_at(
+    entry_at: impl FnOnce(&[u8], u64, &mut [u8]) -> u8,
+    bundle: &[u8],
+    place: u64,
+    room: &[u8],
+) -> buffers::Seen<u8> {
+    let library = seen(&[], room, |_, numbers| {
+        reading([bundle], |[bundle]| entry_at(bundle, place, numbers))
+    });
+    let reference = seen(&[], room, |_, numbers| {
+        let Ok(numbers) = <&mut [u8; NUMBERS]>::try_from(numbers) else {
+            return ROOM;
+        };
+        match bundle::entry_at(bundle, place as usize) {
+            Ok(entry) => {
+                *numbers = numbers_of(&entry);
+                0
+            }
+            Err(Fault::Short) => 1,
+            Err(Fault::Large) => 2,
+            Err(Fault::Past) => 3,
+        }
+    });
+    agreed(library, reference)
 }
 
-/// Adds an entry at the stated end of a bundle.
-#[inline]
-pub fn add(image: &mut [u8], header: &[u8], body: &[u8], bundle: &mut [u8]) -> u64 {
-    // SAFETY: each pointer and length are those of one slice, lent for the call.
-    unsafe {
-        probe_add(
-            image.as_mut_ptr(),
-            image.len(),
-            header.as_ptr(),
-            header.len(),
-            body.as_ptr(),
-            body.len(),
-            bundle.as_mut_ptr(),
-            bundle.len(),
-        )
+/// An entry's numbers, big-endian: the lengths of header and body, and the next place.
+fn numbers_of(entry: &Entry) -> [u8; NUMBERS] {
+    let numbers = [entry.header.len(), entry.ciphertext.len(), entry.end];
+    let bytes = numbers.map(|number| (number as u64).to_be_bytes());
+    bytes.concat().try_into().unwrap()
+}
+
+/// Counts an entry's calls by both.
+pub fn counted(calls_of: impl FnOnce(u64, u64) -> u64, header: u64, body: u64) -> u64 {
+    let calls = calls_of(header, body);
+    let reference = bundle::calls_of(header as usize, body as usize);
+    assert_eq!(calls, reference, "answers differ");
+    calls
+}
+
+/// Opens the entry at a place by both into a buffer that holds `room` before.
+pub fn opened(
+    open_entry: impl FnOnce(&mut [u8], &[u8], u64, &mut [u8]) -> u64,
+    image: &[u8],
+    bundle: &[u8],
+    place: u64,
+    room: &[u8],
+) -> Seen {
+    let library = seen(image, room, |image, body| {
+        reading([bundle], |[bundle]| open_entry(image, bundle, place, body))
+    });
+    let reference = seen(image, room, |image, body| {
+        coded(on_image(image, |session| {
+            bundle::open_entry(session, bundle, place, body)
+        }))
+    });
+    agreed(library, reference)
+}
+
+/// Starts a bundle by both in a buffer.
+pub fn started(
+    start: impl FnOnce(&mut [u8], &[u8], &mut [u8]) -> u64,
+    image: &[u8],
+    label: &[u8],
+    buffer: &[u8],
+) -> Seen {
+    let library = seen(image, buffer, |image, bundle| {
+        reading([label], |[label]| start(image, label, bundle))
+    });
+    let reference = seen(image, buffer, |image, bundle| {
+        let answer = on_image(image, |session| bundle::start(session, label, bundle));
+        coded(answer.map(|()| 0))
+    });
+    agreed(library, reference)
+}
+
+/// Adds an entry by both to the bundle in a buffer.
+pub fn added(
+    add: impl FnOnce(&mut [u8], &[u8], &[u8], &mut [u8]) -> u64,
+    image: &[u8],
+    header: &[u8],
+    body: &[u8],
+    buffer: &[u8],
+) -> Seen {
+    let library = seen(image, buffer, |image, bundle| {
+        reading([header, body], |[header, body]| {
+            add(image, header, body, bundle)
+        })
+    });
+    let reference = seen(image, buffer, |image, bundle| {
+        let answer = on_image(image, |session| bundle::add(session, header, body, bundle));
+        coded(answer.map(|()| 0))
+    });
+    agreed(library, reference)
+}
+
+/// An entry's bytes with anything for a ciphertext and tag.
+pub fn entry(header: &[u8], body: usize) -> Vec<u8> {
+    let header_length = (header.len() as u16).to_be_bytes();
+    let body_length = (body as u32).to_be_bytes();
+    [
+        &header_length,
+        &body_length[..],
+        header,
+        &vec![0x33; body + 16],
+    ]
+    .concat()
+}
+
+/// A bundle of the given entries, with its length right.
+pub fn bundle_of(entries: &[Vec<u8>]) -> Vec<u8> {
+    let rest = entries.concat();
+    [&[1], &(rest.len() as u32).to_be_bytes()[..], &rest].concat()
+}
+
+/// States where a bundle ends.
+pub fn state_end(bundle: &mut [u8], end: usize) {
+    let rest = end as u32 - 5;
+    bundle[1..5].copy_from_slice(&rest.to_be_bytes());
+}
+
+/// Any entries in a bundle that is whole or damaged.
+pub fn any_bundle(random: &mut Random) -> Vec<u8> {
+    let bundle = bundle_of(&any_entries(random));
+    whole_or_damaged(random, bundle)
+}
+
+/// Entries with lengths around the limits of labels, and a wild length now and then.
+fn any_entries(random: &mut Random) -> Vec<Vec<u8>> {
+    let mut entries = Vec::new();
+    for _ in 0..random.below(6) {
+        let header = random.pick(&[0, 15, 16, 64, 65, 300]);
+        let mut entry = entry(&random.bytes(header), random.pick(&[0, 0, 1, 200]));
+        if random.below(8) == 0 {
+            entry[random.below(6)] = random.pick(&[0, 1, 0x0F, 0x10, 0x11, 0xFF]);
+        }
+        entries.push(entry);
     }
+    entries
+}
+
+/// The bundle as it is, cut or changed, or any bytes in its place. In half of these the stated
+/// length is put right, so that it is not all that is wrong.
+pub fn whole_or_damaged(random: &mut Random, bundle: Vec<u8>) -> Vec<u8> {
+    let mut bundle = bundle;
+    match random.below(7) {
+        0 => bundle.truncate(random.below(bundle.len() + 1)),
+        1 => damage(random, &mut bundle),
+        2 => {
+            let bit = random.below(8 * bundle.len().min(60));
+            flip(&mut bundle, bit);
+        }
+        3 => bundle[random.below(5)] = random.pick(&[0, 1, 2, 0x80, 0xFF]),
+        4 => bundle = string(random),
+        _ => {}
+    }
+    let end = bundle.len();
+    if end >= 5 && random.below(2) == 0 {
+        state_end(&mut bundle, end);
+    }
+    bundle
 }

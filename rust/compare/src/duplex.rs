@@ -1,39 +1,58 @@
-//! The exports of the duplex object, which stands in 202 bytes: the state in block order, then the
-//! rate, big-endian.
+//! The duplex object by both sides: 202 bytes, the state in block order and the rate, big-endian.
 
-extern "C" {
-    fn probe_new_duplex(rate: u16, object: *mut u8, object_length: usize) -> u8;
-    fn probe_duplexing(
-        object: *mut u8,
-        object_length: usize,
-        piece: *const u8,
-        piece_length: usize,
-        frame: bool,
-        out: *mut u8,
-        out_length: usize,
-    ) -> u8;
+use crate::buffers::{agreed, reading, seen, Seen};
+use reference::duplex::Duplex;
+use reference::keccak::{bytes_of, lanes_of};
+use reference::spongewrap::ROOM;
+
+/// How many bytes an object has.
+pub const OBJECT: usize = 202;
+
+/// The bytes of an object.
+pub fn object(state: &[u8; 200], rate: u16) -> [u8; OBJECT] {
+    let parts = [state.as_slice(), &rate.to_be_bytes()];
+    parts.concat().try_into().unwrap()
 }
 
-/// Writes a fresh object; answers 0, or 6 for another length than 202.
-#[inline]
-pub fn new(rate: u16, object: &mut [u8]) -> u8 {
-    // SAFETY: pointer and length are those of one slice, lent for the call.
-    unsafe { probe_new_duplex(rate, object.as_mut_ptr(), object.len()) }
+/// Makes a fresh object by both, in a buffer that holds `before`.
+pub fn made(new: impl FnOnce(u16, &mut [u8]) -> u8, rate: u16, before: &[u8]) -> Seen<u8> {
+    let library = seen(before, &[], |bytes, _| new(rate, bytes));
+    let reference = seen(before, &[], |bytes, _| {
+        let Ok(bytes) = <&mut [u8; OBJECT]>::try_from(bytes) else {
+            return ROOM;
+        };
+        *bytes = object(&[0; 200], rate);
+        0
+    });
+    agreed(library, reference)
 }
 
-/// One duplexing; answers 0 if it was done and 1 if not, or 6 for another length than 202.
-#[inline]
-pub fn duplexing(object: &mut [u8], piece: &[u8], frame: bool, out: &mut [u8]) -> u8 {
-    // SAFETY: each pointer and length are those of one slice, lent for the call.
-    unsafe {
-        probe_duplexing(
-            object.as_mut_ptr(),
-            object.len(),
-            piece.as_ptr(),
-            piece.len(),
-            frame,
-            out.as_mut_ptr(),
-            out.len(),
-        )
-    }
+/// One duplexing by both into a buffer that holds `room` before.
+pub fn duplexed(
+    duplexing: impl FnOnce(&mut [u8], &[u8], bool, &mut [u8]) -> u8,
+    object: &[u8],
+    piece: &[u8],
+    frame: bool,
+    room: &[u8],
+) -> Seen<u8> {
+    let library = seen(object, room, |object, out| {
+        reading([piece], |[piece]| duplexing(object, piece, frame, out))
+    });
+    let reference = seen(object, room, |object, out| {
+        duplex_bytes(object, piece, frame, out)
+    });
+    agreed(library, reference)
+}
+
+/// What the reference makes of an object's bytes: 0 if it was done, 1 if not.
+fn duplex_bytes(bytes: &mut [u8], piece: &[u8], frame: bool, out: &mut [u8]) -> u8 {
+    let Ok(bytes) = <&mut [u8; OBJECT]>::try_from(bytes) else {
+        return ROOM;
+    };
+    let rate = u16::from_be_bytes([bytes[200], bytes[201]]);
+    let lanes = lanes_of(bytes.first_chunk().unwrap());
+    let mut duplex = Duplex::new(lanes, rate.into());
+    let done = duplex.duplexing_into(piece, frame, out);
+    *bytes = object(&bytes_of(&duplex.lanes), rate);
+    u8::from(!done)
 }

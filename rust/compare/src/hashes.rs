@@ -1,28 +1,44 @@
-//! The exports of the three hash functions.
+//! The hashes by both sides.
 
-extern "C" {
-    fn probe_sha3_256(message: *const u8, length: usize, out: *mut u8, room: usize) -> u8;
-    fn probe_shake128(message: *const u8, length: usize, out: *mut u8, room: usize);
-    fn probe_shake256(message: *const u8, length: usize, out: *mut u8, room: usize);
+use crate::buffers::{agreed, reading, seen, Seen};
+use crate::sessions::number;
+use reference::desk;
+
+/// One of the two functions that fill a slice.
+pub type Shake = fn(&[u8], &mut [u8]);
+
+/// Lengths around whole blocks of both rates, up to 1 MiB.
+pub const LONG: [usize; 12] = [
+    2_039, 2_040, 2_041, 2_519, 2_520, 2_521, 65_535, 65_536, 131_072, 1_048_559, 1_048_560,
+    1_048_576,
+];
+
+/// Lengths around a lane, and around one block and two of both rates.
+pub const NEAR: [usize; 16] = [
+    0, 1, 7, 8, 9, 135, 136, 137, 167, 168, 169, 271, 272, 335, 336, 337,
+];
+
+/// Bytes that a sign or a carry could trouble.
+pub const TROUBLE: [u8; 5] = [0x00, 0x01, 0x7F, 0x80, 0xFF];
+
+/// Hashes a message by SHA3-256 of both into a buffer that holds `room` before.
+pub fn digested(
+    sha3_256: impl FnOnce(&[u8], &mut [u8]) -> u8,
+    message: &[u8],
+    room: &[u8],
+) -> Seen<u8> {
+    let library = seen(&[], room, |_, out| {
+        reading([message], |[message]| sha3_256(message, out))
+    });
+    let reference = seen(&[], room, |_, out| number(desk::sha3_256(message, out)));
+    agreed(library, reference)
 }
 
-/// Writes the digest to the first 32 bytes; answers 0, or 6 if there are fewer.
-#[inline]
-pub fn sha3_256(message: &[u8], out: &mut [u8]) -> u8 {
-    // SAFETY: each pointer and length are those of one slice, lent for the call.
-    unsafe { probe_sha3_256(message.as_ptr(), message.len(), out.as_mut_ptr(), out.len()) }
-}
-
-/// Fills the output.
-#[inline]
-pub fn shake128(message: &[u8], out: &mut [u8]) {
-    // SAFETY: each pointer and length are those of one slice, lent for the call.
-    unsafe { probe_shake128(message.as_ptr(), message.len(), out.as_mut_ptr(), out.len()) }
-}
-
-/// Fills the output.
-#[inline]
-pub fn shake256(message: &[u8], out: &mut [u8]) {
-    // SAFETY: each pointer and length are those of one slice, lent for the call.
-    unsafe { probe_shake256(message.as_ptr(), message.len(), out.as_mut_ptr(), out.len()) }
+/// Fills a buffer that holds `room` before by a SHAKE of both.
+pub fn filled(library: Shake, reference: Shake, message: &[u8], room: &[u8]) {
+    let library = seen(&[], room, |_, out| {
+        reading([message], |[message]| library(message, out))
+    });
+    let reference = seen(&[], room, |_, out| reference(message, out));
+    agreed(library, reference);
 }

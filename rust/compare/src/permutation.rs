@@ -1,20 +1,21 @@
-//! The permutation's exports: a state of 200 bytes in block order, changed where it stands.
+//! The permutation by both sides.
 
-extern "C" {
-    fn probe_permute(state: *mut u8, length: usize) -> u8;
-    fn probe_permute_times(state: *mut u8, length: usize, times: u64) -> u8;
+use crate::buffers::{agreed, seen, Seen};
+use reference::keccak::{bytes_of, lanes_of, permuted_1600};
+use reference::spongewrap::{Refusal, ROOM};
+
+/// Permutes the state in a buffer `times` times by both; another length than 200 is refused.
+pub fn permuted(library: impl FnOnce(&mut [u8]) -> u8, state: &[u8], times: u64) -> Seen<u8> {
+    let library = seen(&[], state, |_, state| library(state));
+    let reference = seen(&[], state, |_, state| permute_times(state, times));
+    agreed(library, reference)
 }
 
-/// Permutes a state once; answers 0, or 6 for another length than 200.
-#[inline]
-pub fn permute(state: &mut [u8]) -> u8 {
-    // SAFETY: pointer and length are those of one slice, lent for the call.
-    unsafe { probe_permute(state.as_mut_ptr(), state.len()) }
-}
-
-/// Permutes a state `times` times in one call, so that a measurement sees little else.
-#[inline]
-pub fn permute_times(state: &mut [u8], times: u64) -> u8 {
-    // SAFETY: pointer and length are those of one slice, lent for the call.
-    unsafe { probe_permute_times(state.as_mut_ptr(), state.len(), times) }
+/// What the reference makes of a state in `times` permutations.
+fn permute_times(state: &mut [u8], times: u64) -> Refusal {
+    let Ok(state) = <&mut [u8; 200]>::try_from(state) else {
+        return ROOM;
+    };
+    *state = bytes_of(&(0..times).fold(lanes_of(state), |lanes, _| permuted_1600(lanes)));
+    0
 }

@@ -2,9 +2,9 @@
 //!
 //! An answer carries a place times 256, so places here stay under 2^56.
 
-use compare::bundles::{add, open_entry, start, survey};
-use inputs::bundles::{self, any_bundle, bundle_of, entry, refused, Seen};
-use inputs::random::Random;
+use compare::bundles::{self, any_bundle, bundle_of, entry, refused, Seen};
+use compare::random::Random;
+use exports::probe::bundles::{add, open_entry, start, survey};
 use reference::bundle;
 use reference::spongewrap::Session;
 

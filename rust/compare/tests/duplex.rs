@@ -1,16 +1,16 @@
 //! The library's duplex object against the reference: answers, objects and every byte of every
 //! output.
 
-use compare::duplex::{duplexing, new};
-use inputs::buffers::Seen;
-use inputs::duplex::{made, object, OBJECT};
-use inputs::random::Random;
-use inputs::sessions::string;
+use compare::buffers::Seen;
+use compare::duplex::{made, object, OBJECT};
+use compare::random::Random;
+use compare::sessions::string;
+use exports::probe::duplex::{duplexing, new};
 
 /// One duplexing by both into a buffer that holds `room` before. The limits alone say whether it is
 /// done, and if it is not, everything is left as it was.
 fn duplexed(bytes: &[u8], piece: &[u8], frame: bool, room: &[u8]) -> Seen<u8> {
-    let seen = inputs::duplex::duplexed(duplexing, bytes, piece, frame, room);
+    let seen = compare::duplex::duplexed(duplexing, bytes, piece, frame, room);
     let rate = usize::from(u16::from_be_bytes([bytes[200], bytes[201]]));
     let done = [136, 168].contains(&rate) && piece.len() < rate && room.len() <= rate;
     assert_eq!(seen.answer, u8::from(!done));
@@ -99,7 +99,7 @@ fn objects_of_other_lengths() {
     for length in [0, 1, 199, 200, 201, 203, 216, 404] {
         let bytes = random.bytes(length);
         assert_eq!(made(new, 136, &bytes).answer, 6);
-        let seen = inputs::duplex::duplexed(duplexing, &bytes, b"piece", true, &[0x5A; 20]);
+        let seen = compare::duplex::duplexed(duplexing, &bytes, b"piece", true, &[0x5A; 20]);
         assert_eq!(seen.answer, 6);
     }
 }

@@ -1,9 +1,9 @@
 //! The library's look at single entries against the reference: what stands at a place, and how many
 //! calls it takes.
 
-use compare::bundles::{calls_of, entry_at};
-use inputs::bundles::{any_bundle, bundle_of, counted, entry, looked_at, NUMBERS};
-use inputs::random::Random;
+use compare::bundles::{any_bundle, bundle_of, counted, entry, looked_at, NUMBERS};
+use compare::random::Random;
+use exports::probe::bundles::{calls_of, entry_at};
 
 /// The answers where no entry is whole.
 const SHORT: Looked = Err(1);

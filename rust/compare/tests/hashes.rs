@@ -1,8 +1,8 @@
 //! The library's hashes against the reference: every short length, and lengths to 1 MiB.
 
-use compare::hashes::{sha3_256, shake128, shake256};
-use inputs::hashes::{digested, filled, Shake, LONG, NEAR, TROUBLE};
-use inputs::random::Random;
+use compare::hashes::{digested, filled, Shake, LONG, NEAR, TROUBLE};
+use compare::random::Random;
+use exports::probe::hashes::{sha3_256, shake128, shake256};
 use reference::sponge;
 
 /// Both SHAKEs, the library's beside the reference's.

@@ -1,8 +1,8 @@
 //! The library's permutation against the reference, over more than 20,000 states.
 
-use compare::permutation::{permute, permute_times};
-use inputs::permutation::permuted;
-use inputs::random::Random;
+use compare::permutation::permuted;
+use compare::random::Random;
+use exports::probe::permutation::{permute, permute_times};
 
 /// Permutes a state once by both and answers the state that they agree on.
 fn agreed(state: &[u8]) -> Vec<u8> {

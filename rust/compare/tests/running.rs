@@ -1,6 +1,6 @@
 //! The running session against the reference: answers, images and every byte of every buffer.
 
-use compare::running::{unwrap, wrap};
-use inputs::sessions::Calls;
+use compare::sessions::Calls;
+use exports::probe::running::{unwrap, wrap};
 
-inputs::session_tests!(Calls { wrap, unwrap });
+compare::session_tests!(Calls { wrap, unwrap });

@@ -1,16 +1,16 @@
 //! The library's sessions against the reference: answers, images and every byte of every buffer.
 
-use compare::sessions::{default_open, open, unwrap, wrap};
-use inputs::random::Random;
-use inputs::sessions::{opened_by_default, Calls, Seen};
+use compare::random::Random;
+use compare::sessions::{opened_by_default, Calls, Seen};
+use exports::probe::sessions::{default_open, open, unwrap, wrap};
 use reference::desk::IMAGE;
 
-inputs::session_tests!(Calls { wrap, unwrap });
+compare::session_tests!(Calls { wrap, unwrap });
 
 /// Opens a session by both.
 fn opened(rate: u16, tag: u16, key: &[u8], image: &[u8]) -> Seen {
     let call = |key: &[u8], image: &mut [u8]| open(rate, tag, key, image);
-    inputs::sessions::opened(call, rate, tag, key, image)
+    compare::sessions::opened(call, rate, tag, key, image)
 }
 
 #[test]

@@ -2,13 +2,13 @@
 
 use crate::made_up::{around, body, header, once_in, room, wilder};
 use crate::Trial;
-use compare::bundles::{add, calls_of, entry_at, open_entry, start, survey};
-use inputs::bundles::{
+use compare::bundles::{
     self, added, bundle_of, counted, entry, looked_at, opened, started, state_end, surveyed,
     whole_or_damaged, NUMBERS,
 };
-use inputs::random::Random;
-use inputs::sessions::{damage, flip};
+use compare::random::Random;
+use compare::sessions::{damage, flip};
+use exports::probe::bundles::{add, calls_of, entry_at, open_entry, start, survey};
 use reference::bundle;
 use reference::spongewrap::{Session, MOST_BODY};
 

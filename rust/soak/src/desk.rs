@@ -2,10 +2,10 @@
 
 use crate::made_up::{message, room};
 use crate::{sessions, Trial};
-use inputs::hashes::digested;
-use inputs::random::Random;
-use inputs::sessions::Calls;
-use surface::{open, sha3_256, unwrap, wrap, RATE, TAG};
+use compare::hashes::digested;
+use compare::random::Random;
+use compare::sessions::Calls;
+use exports::desk::{open, sha3_256, unwrap, wrap, RATE, TAG};
 
 /// The archive's two calls on pairs.
 const CALLS: Calls = Calls { wrap, unwrap };

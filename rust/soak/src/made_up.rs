@@ -1,7 +1,7 @@
 //! Arbitrary arguments, near the limits more often than chance would have them.
 
-use inputs::random::Random;
-use inputs::sessions::{damage, length, random_image, tag_length, CALLS, PAIRS, RATES, TAGS};
+use compare::random::Random;
+use compare::sessions::{damage, length, random_image, tag_length, CALLS, PAIRS, RATES, TAGS};
 use reference::desk::IMAGE;
 use reference::spongewrap::{Session, MOST_BODY, MOST_HEADER};
 

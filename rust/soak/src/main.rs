@@ -10,7 +10,7 @@ mod made_up;
 mod probe;
 mod sessions;
 
-use inputs::random::Random;
+use compare::random::Random;
 use std::panic::catch_unwind;
 use std::process::exit;
 use std::time::{Duration, Instant, SystemTime};

@@ -2,16 +2,18 @@
 
 use crate::made_up::{around, blank, key, message, once_in, room};
 use crate::{sessions, Trial};
-use compare::duplex::{duplexing, new};
-use compare::hashes::{sha3_256, shake128, shake256};
-use compare::permutation::{permute, permute_times};
-use compare::running;
-use compare::sessions::{default_open, open, unwrap, wrap};
-use inputs::duplex::{duplexed, made, object, OBJECT};
-use inputs::hashes::{digested, filled, Shake};
-use inputs::permutation::permuted;
-use inputs::random::Random;
-use inputs::sessions::{damage, length, opened_by_default, string, tag_length, Calls, RATES, TAGS};
+use compare::duplex::{duplexed, made, object, OBJECT};
+use compare::hashes::{digested, filled, Shake};
+use compare::permutation::permuted;
+use compare::random::Random;
+use compare::sessions::{
+    damage, length, opened_by_default, string, tag_length, Calls, RATES, TAGS,
+};
+use exports::probe::duplex::{duplexing, new};
+use exports::probe::hashes::{sha3_256, shake128, shake256};
+use exports::probe::permutation::{permute, permute_times};
+use exports::probe::running;
+use exports::probe::sessions::{default_open, open, unwrap, wrap};
 use reference::sponge;
 
 /// The archive's two calls on pairs.

@@ -1,8 +1,8 @@
 //! Calls on sessions, which both archives have.
 
 use crate::made_up::{blank, body, header, image, key, room};
-use inputs::random::Random;
-use inputs::sessions::{damage, opened, Calls, Letter};
+use compare::random::Random;
+use compare::sessions::{damage, opened, Calls, Letter};
 use reference::desk::on_image;
 use reference::spongewrap::Refusal;
 

@@ -1,8 +1,8 @@
 //! The surface's SHA3-256 against the reference, with digests of every length around 32.
 
-use inputs::hashes::{digested, LONG, NEAR, TROUBLE};
-use inputs::random::Random;
-use surface::sha3_256;
+use compare::hashes::{digested, LONG, NEAR, TROUBLE};
+use compare::random::Random;
+use exports::desk::sha3_256;
 
 /// Holds a digest to the reference's, lent so many bytes.
 fn check(message: &[u8], length: usize) {

@@ -1,19 +1,19 @@
 //! The surface's sessions against the reference: answers, images and every byte of every buffer.
 
-use inputs::random::Random;
-use inputs::sessions::{string, Calls, Letter, Seen};
+use compare::random::Random;
+use compare::sessions::{string, Calls, Letter, Seen};
+use exports::desk::{open, unwrap, wrap, RATE, TAG};
 use reference::desk::IMAGE;
 use reference::spongewrap::Session;
-use surface::{open, unwrap, wrap, RATE, TAG};
 
 /// The surface's two calls on pairs.
 const CALLS: Calls = Calls { wrap, unwrap };
 
-inputs::session_tests!(CALLS);
+compare::session_tests!(CALLS);
 
 /// Opens a session by both, with the settings that the surface takes by itself.
 fn opened(key: &[u8], image: &[u8]) -> Seen {
-    inputs::sessions::opened(open, RATE, TAG, key, image)
+    compare::sessions::opened(open, RATE, TAG, key, image)
 }
 
 #[test]

@@ -1,6 +1,6 @@
-//! The exports of libdesk.a as safe functions: what include/feefledown.h declares, no more.
+//! The exports of libdesk.a: what include/feefledown.h declares, no more.
 
-exports::pair_calls!(feefledown_wrap, feefledown_unwrap);
+crate::pairs::pair_calls!(feefledown_wrap, feefledown_unwrap);
 
 extern "C" {
     fn feefledown_open(
@@ -24,12 +24,14 @@ pub const RATE: u16 = 136;
 pub const TAG: u16 = 16;
 
 /// Opens a session into the image; answers 0 or a refusal.
+#[inline]
 pub fn open(key: &[u8], image: &mut [u8]) -> u8 {
     // SAFETY: each pointer and length are those of one slice, lent for the call.
     unsafe { feefledown_open(key.as_ptr(), key.len(), image.as_mut_ptr(), image.len()) }
 }
 
 /// Writes the digest to the first 32 bytes; answers 0, or 6 if there are fewer.
+#[inline]
 pub fn sha3_256(message: &[u8], digest: &mut [u8]) -> u8 {
     // SAFETY: each pointer and length are those of one slice, lent for the call.
     unsafe {

@@ -1,8 +1,8 @@
 //! What the lister prints, byte for byte, beside the text that document 01 asks for.
 
-use inputs::bundles::{any_bundle, bundle_of, entry, state_end};
-use inputs::random::Random;
-use inputs::sessions::{flip, string};
+use compare::bundles::{any_bundle, bundle_of, entry, state_end};
+use compare::random::Random;
+use compare::sessions::{flip, string};
 use reference::bundle::{calls_of, entry_at, survey, START};
 use std::io::{ErrorKind, Write};
 use std::path::Path;

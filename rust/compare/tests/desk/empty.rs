@@ -1,11 +1,11 @@
 //! Empty buffers through the C surface: any pointer but null will do, as the header says.
 
+use exports::desk::{open, sha3_256, unwrap, wrap};
 use reference::desk::IMAGE;
 use reference::sponge;
 use reference::spongewrap::Session;
 use std::ptr::NonNull;
 use std::slice;
-use surface::{open, sha3_256, unwrap, wrap};
 
 /// An empty slice to read whose pointer points to nothing: a look there would end the test.
 fn nothing() -> &'static [u8] {

@@ -1,3 +1,3 @@
 //! The exports of the running session, which is advanced where it stands.
 
-exports::pair_calls!(probe_running_wrap, probe_running_unwrap);
+crate::pairs::pair_calls!(probe_running_wrap, probe_running_unwrap);

@@ -1,0 +1,5 @@
+//! The C surface against the reference.
+
+mod empty;
+mod hashes;
+mod sessions;
