@@ -1,5 +1,6 @@
 # A user's commands: demo, test, lib, bench, soak. `compare` is the part of the gate that comes after the proofs.
 CARGO = cargo --quiet
+RELEASE = --release --offline
 SECONDS = 60
 DIST = target/dist
 STRICT = -Wall -Wextra -Werror -pedantic -Iinclude
@@ -38,14 +39,17 @@ desk: lib
 	./target/desk-c++ > target/desk.out
 	if command -v valgrind > target/valgrind.path; then valgrind -q --error-exitcode=1 ./target/desk > target/desk.out; fi
 
-# Both archives and the lister beside the reference.
+# Both archives and the lister beside the reference. All of the Rust side is built, and the compiler's advice is taken.
 compare: probe desk
 	rt check lister
-	cd rust && $(CARGO) test --release --offline
+	cd rust && $(CARGO) clippy $(RELEASE) --all-targets -- -D warnings
+	cd rust && $(CARGO) build $(RELEASE) --all-targets
+	cd rust && $(CARGO) test $(RELEASE)
+	cd rust && $(CARGO) run $(RELEASE) --package soak -- 5
 
 bench: probe lib
-	cd rust && $(CARGO) run --release --offline --package bench
+	cd rust && $(CARGO) run $(RELEASE) --package bench
 
 # Every export with arbitrary bytes beside the reference: make soak SECONDS=600.
 soak: probe lib
-	cd rust && $(CARGO) run --release --offline --package soak -- $(SECONDS)
+	cd rust && $(CARGO) run $(RELEASE) --package soak -- $(SECONDS)
