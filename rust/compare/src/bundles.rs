@@ -1,6 +1,6 @@
 //! Calls on bundles by both sides.
 
-use crate::buffers::{self, agreed, reading, seen};
+use crate::buffers::{self, compared};
 use crate::random::Random;
 use crate::sessions::{damage, flip, string};
 use reference::bundle::{self, Entry, Fault, Refused};
@@ -24,10 +24,15 @@ pub fn refused(number: u64, place: u64) -> u64 {
 }
 
 /// Surveys a bundle by both.
-pub fn surveyed(survey: impl FnOnce(&[u8]) -> u64, bundle: &[u8]) -> u64 {
-    let answer = reading([bundle], |[bundle]| survey(bundle));
-    assert_eq!(answer, coded(bundle::survey(bundle)), "answers differ");
-    answer
+pub fn surveyed(survey: impl Fn(&[u8]) -> u64, bundle: &[u8]) -> u64 {
+    compared(
+        &[],
+        &[],
+        [bundle],
+        |_, _, [bundle]| survey(bundle),
+        |_, _| coded(bundle::survey(bundle)),
+    )
+    .answer
 }
 
 /// How many bytes the three numbers of an entry take.
@@ -35,29 +40,34 @@ pub const NUMBERS: usize = 24;
 
 /// Looks at a place by both: the entry's three numbers go to a buffer that holds `room` before.
 pub fn looked_at(
-    entry_at: impl FnOnce(&[u8], u64, &mut [u8]) -> u8,
+    entry_at: impl Fn(&[u8], u64, &mut [u8]) -> u8,
     bundle: &[u8],
     place: u64,
     room: &[u8],
 ) -> buffers::Seen<u8> {
-    let library = seen(&[], room, |_, numbers| {
-        reading([bundle], |[bundle]| entry_at(bundle, place, numbers))
-    });
-    let reference = seen(&[], room, |_, numbers| {
-        let Ok(numbers) = <&mut [u8; NUMBERS]>::try_from(numbers) else {
-            return ROOM;
-        };
-        match bundle::entry_at(bundle, place as usize) {
-            Ok(entry) => {
-                *numbers = numbers_of(&entry);
-                0
-            }
-            Err(Fault::Short) => 1,
-            Err(Fault::Large) => 2,
-            Err(Fault::Past) => 3,
+    compared(
+        &[],
+        room,
+        [bundle],
+        |_, numbers, [bundle]| entry_at(bundle, place, numbers),
+        |_, numbers| put_numbers(bundle, place, numbers),
+    )
+}
+
+/// What the reference puts of the entry at a place: 0, or why nothing.
+fn put_numbers(bundle: &[u8], place: u64, numbers: &mut [u8]) -> u8 {
+    let Ok(numbers) = <&mut [u8; NUMBERS]>::try_from(numbers) else {
+        return ROOM;
+    };
+    match bundle::entry_at(bundle, place as usize) {
+        Ok(entry) => {
+            *numbers = numbers_of(&entry);
+            0
         }
-    });
-    agreed(library, reference)
+        Err(Fault::Short) => 1,
+        Err(Fault::Large) => 2,
+        Err(Fault::Past) => 3,
+    }
 }
 
 /// An entry's numbers, big-endian: the lengths of header and body, and the next place.
@@ -77,58 +87,62 @@ pub fn counted(calls_of: impl FnOnce(u64, u64) -> u64, header: u64, body: u64) -
 
 /// Opens the entry at a place by both into a buffer that holds `room` before.
 pub fn opened(
-    open_entry: impl FnOnce(&mut [u8], &[u8], u64, &mut [u8]) -> u64,
+    open_entry: impl Fn(&mut [u8], &[u8], u64, &mut [u8]) -> u64,
     image: &[u8],
     bundle: &[u8],
     place: u64,
     room: &[u8],
 ) -> Seen {
-    let library = seen(image, room, |image, body| {
-        reading([bundle], |[bundle]| open_entry(image, bundle, place, body))
-    });
-    let reference = seen(image, room, |image, body| {
-        coded(on_image(image, |session| {
-            bundle::open_entry(session, bundle, place, body)
-        }))
-    });
-    agreed(library, reference)
+    compared(
+        image,
+        room,
+        [bundle],
+        |image, body, [bundle]| open_entry(image, bundle, place, body),
+        |image, body| {
+            coded(on_image(image, |session| {
+                bundle::open_entry(session, bundle, place, body)
+            }))
+        },
+    )
 }
 
 /// Starts a bundle by both in a buffer.
 pub fn started(
-    start: impl FnOnce(&mut [u8], &[u8], &mut [u8]) -> u64,
+    start: impl Fn(&mut [u8], &[u8], &mut [u8]) -> u64,
     image: &[u8],
     label: &[u8],
     buffer: &[u8],
 ) -> Seen {
-    let library = seen(image, buffer, |image, bundle| {
-        reading([label], |[label]| start(image, label, bundle))
-    });
-    let reference = seen(image, buffer, |image, bundle| {
-        let answer = on_image(image, |session| bundle::start(session, label, bundle));
-        coded(answer.map(|()| 0))
-    });
-    agreed(library, reference)
+    compared(
+        image,
+        buffer,
+        [label],
+        |image, bundle, [label]| start(image, label, bundle),
+        |image, bundle| {
+            let answer = on_image(image, |session| bundle::start(session, label, bundle));
+            coded(answer.map(|()| 0))
+        },
+    )
 }
 
 /// Adds an entry by both to the bundle in a buffer.
 pub fn added(
-    add: impl FnOnce(&mut [u8], &[u8], &[u8], &mut [u8]) -> u64,
+    add: impl Fn(&mut [u8], &[u8], &[u8], &mut [u8]) -> u64,
     image: &[u8],
     header: &[u8],
     body: &[u8],
     buffer: &[u8],
 ) -> Seen {
-    let library = seen(image, buffer, |image, bundle| {
-        reading([header, body], |[header, body]| {
-            add(image, header, body, bundle)
-        })
-    });
-    let reference = seen(image, buffer, |image, bundle| {
-        let answer = on_image(image, |session| bundle::add(session, header, body, bundle));
-        coded(answer.map(|()| 0))
-    });
-    agreed(library, reference)
+    compared(
+        image,
+        buffer,
+        [header, body],
+        |image, bundle, [header, body]| add(image, header, body, bundle),
+        |image, bundle| {
+            let answer = on_image(image, |session| bundle::add(session, header, body, bundle));
+            coded(answer.map(|()| 0))
+        },
+    )
 }
 
 /// An entry's bytes with anything for a ciphertext and tag.

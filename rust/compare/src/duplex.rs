@@ -1,6 +1,6 @@
 //! The duplex object by both sides: 202 bytes, the state in block order and the rate, big-endian.
 
-use crate::buffers::{agreed, reading, seen, Seen};
+use crate::buffers::{compared, Seen};
 use reference::duplex::Duplex;
 use reference::keccak::{bytes_of, lanes_of};
 use reference::spongewrap::ROOM;
@@ -15,33 +15,38 @@ pub fn object(state: &[u8; 200], rate: u16) -> [u8; OBJECT] {
 }
 
 /// Makes a fresh object by both, in a buffer that holds `before`.
-pub fn made(new: impl FnOnce(u16, &mut [u8]) -> u8, rate: u16, before: &[u8]) -> Seen<u8> {
-    let library = seen(before, &[], |bytes, _| new(rate, bytes));
-    let reference = seen(before, &[], |bytes, _| {
+pub fn made(new: impl Fn(u16, &mut [u8]) -> u8, rate: u16, before: &[u8]) -> Seen<u8> {
+    let fresh = |bytes: &mut [u8]| {
         let Ok(bytes) = <&mut [u8; OBJECT]>::try_from(bytes) else {
             return ROOM;
         };
         *bytes = object(&[0; 200], rate);
         0
-    });
-    agreed(library, reference)
+    };
+    compared(
+        before,
+        &[],
+        [],
+        |bytes, _, []| new(rate, bytes),
+        |bytes, _| fresh(bytes),
+    )
 }
 
 /// One duplexing by both into a buffer that holds `room` before.
 pub fn duplexed(
-    duplexing: impl FnOnce(&mut [u8], &[u8], bool, &mut [u8]) -> u8,
+    duplexing: impl Fn(&mut [u8], &[u8], bool, &mut [u8]) -> u8,
     object: &[u8],
     piece: &[u8],
     frame: bool,
     room: &[u8],
 ) -> Seen<u8> {
-    let library = seen(object, room, |object, out| {
-        reading([piece], |[piece]| duplexing(object, piece, frame, out))
-    });
-    let reference = seen(object, room, |object, out| {
-        duplex_bytes(object, piece, frame, out)
-    });
-    agreed(library, reference)
+    compared(
+        object,
+        room,
+        [piece],
+        |object, out, [piece]| duplexing(object, piece, frame, out),
+        |object, out| duplex_bytes(object, piece, frame, out),
+    )
 }
 
 /// What the reference makes of an object's bytes: 0 if it was done, 1 if not.

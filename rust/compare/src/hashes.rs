@@ -1,6 +1,6 @@
 //! The hashes by both sides.
 
-use crate::buffers::{agreed, reading, seen, Seen};
+use crate::buffers::{compared, Seen};
 use crate::sessions::number;
 use reference::desk;
 
@@ -23,22 +23,26 @@ pub const TROUBLE: [u8; 5] = [0x00, 0x01, 0x7F, 0x80, 0xFF];
 
 /// Hashes a message by SHA3-256 of both into a buffer that holds `room` before.
 pub fn digested(
-    sha3_256: impl FnOnce(&[u8], &mut [u8]) -> u8,
+    sha3_256: impl Fn(&[u8], &mut [u8]) -> u8,
     message: &[u8],
     room: &[u8],
 ) -> Seen<u8> {
-    let library = seen(&[], room, |_, out| {
-        reading([message], |[message]| sha3_256(message, out))
-    });
-    let reference = seen(&[], room, |_, out| number(desk::sha3_256(message, out)));
-    agreed(library, reference)
+    compared(
+        &[],
+        room,
+        [message],
+        |_, out, [message]| sha3_256(message, out),
+        |_, out| number(desk::sha3_256(message, out)),
+    )
 }
 
 /// Fills a buffer that holds `room` before by a SHAKE of both.
 pub fn filled(library: Shake, reference: Shake, message: &[u8], room: &[u8]) {
-    let library = seen(&[], room, |_, out| {
-        reading([message], |[message]| library(message, out))
-    });
-    let reference = seen(&[], room, |_, out| reference(message, out));
-    agreed(library, reference);
+    compared(
+        &[],
+        room,
+        [message],
+        |_, out, [message]| library(message, out),
+        |_, out| reference(message, out),
+    );
 }

@@ -8,6 +8,7 @@ pub mod buffers;
 pub mod bundles;
 pub mod duplex;
 pub mod hashes;
+pub mod pages;
 pub mod permutation;
 pub mod random;
 pub mod sessions;

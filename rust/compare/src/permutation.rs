@@ -1,14 +1,18 @@
 //! The permutation by both sides.
 
-use crate::buffers::{agreed, seen, Seen};
+use crate::buffers::{compared, Seen};
 use reference::keccak::{bytes_of, lanes_of, permuted_1600};
 use reference::spongewrap::{Refusal, ROOM};
 
 /// Permutes the state in a buffer `times` times by both; another length than 200 is refused.
-pub fn permuted(library: impl FnOnce(&mut [u8]) -> u8, state: &[u8], times: u64) -> Seen<u8> {
-    let library = seen(&[], state, |_, state| library(state));
-    let reference = seen(&[], state, |_, state| permute_times(state, times));
-    agreed(library, reference)
+pub fn permuted(library: impl Fn(&mut [u8]) -> u8, state: &[u8], times: u64) -> Seen<u8> {
+    compared(
+        &[],
+        state,
+        [],
+        |_, state, []| library(state),
+        |_, state| permute_times(state, times),
+    )
 }
 
 /// What the reference makes of a state in `times` permutations.

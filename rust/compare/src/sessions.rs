@@ -1,6 +1,6 @@
 //! Calls on sessions by both sides, and what they are called with.
 
-use crate::buffers::{self, agreed, reading, seen};
+use crate::buffers::{self, compared};
 use crate::random::Random;
 use reference::desk::{self, on_image, IMAGE};
 use reference::spongewrap::{Refusal, Session, ROOM};
@@ -15,7 +15,7 @@ pub fn number(answer: Result<(), Refusal>) -> u8 {
 
 /// Opens a session by both; the library's call knows the rate and the tag length already.
 pub fn opened(
-    open: impl FnOnce(&[u8], &mut [u8]) -> u8,
+    open: impl Fn(&[u8], &mut [u8]) -> u8,
     rate: u16,
     tag: u16,
     key: &[u8],
@@ -25,11 +25,7 @@ pub fn opened(
 }
 
 /// Opens a session by both without settings; a refused open leaves the session of zeros.
-pub fn opened_by_default(
-    open: impl FnOnce(&[u8], &mut [u8]) -> u8,
-    key: &[u8],
-    image: &[u8],
-) -> Seen {
+pub fn opened_by_default(open: impl Fn(&[u8], &mut [u8]) -> u8, key: &[u8], image: &[u8]) -> Seen {
     opened_as(open, key, image, |image| {
         let image = <&mut [u8; IMAGE]>::try_from(image).map_err(|_| ROOM)?;
         *image = [0; IMAGE];
@@ -39,17 +35,17 @@ pub fn opened_by_default(
 
 /// Opens a session by the library's call, and into a like image by the reference's.
 fn opened_as(
-    library: impl FnOnce(&[u8], &mut [u8]) -> u8,
+    library: impl Fn(&[u8], &mut [u8]) -> u8,
     key: &[u8],
     image: &[u8],
     reference: impl FnOnce(&mut [u8]) -> Result<(), Refusal>,
 ) -> Seen {
-    let library = seen(image, &[], |image, _| {
-        reading([key], |[key]| library(key, image))
-    });
-    agreed(
-        library,
-        seen(image, &[], |image, _| number(reference(image))),
+    compared(
+        image,
+        &[],
+        [key],
+        |image, _, [key]| library(key, image),
+        |image, _| number(reference(image)),
     )
 }
 
@@ -69,32 +65,32 @@ pub struct Calls {
 impl Calls {
     /// Wraps a pair by both into a buffer that holds `room` before.
     pub fn wrapped(&self, image: &[u8], header: &[u8], body: &[u8], room: &[u8]) -> Seen {
-        let library = seen(image, room, |image, out| {
-            reading([header, body], |[header, body]| {
-                (self.wrap)(image, header, body, out)
-            })
-        });
-        let reference = seen(image, room, |image, out| {
-            number(on_image(image, |session| session.wrap(header, body, out)))
-        });
-        agreed(library, reference)
+        compared(
+            image,
+            room,
+            [header, body],
+            |image, out, [header, body]| (self.wrap)(image, header, body, out),
+            |image, out| number(on_image(image, |session| session.wrap(header, body, out))),
+        )
     }
 
     /// Unwraps a letter by both into a buffer that holds `room` before.
     pub fn unwrapped(&self, image: &[u8], letter: &Letter, room: &[u8]) -> Seen {
         let parts = letter.0.each_ref().map(Vec::as_slice);
         let [header, ciphertext, tag] = parts;
-        let library = seen(image, room, |image, body| {
-            reading(parts, |[header, ciphertext, tag]| {
+        compared(
+            image,
+            room,
+            parts,
+            |image, body, [header, ciphertext, tag]| {
                 (self.unwrap)(image, header, ciphertext, tag, body)
-            })
-        });
-        let reference = seen(image, room, |image, body| {
-            number(on_image(image, |session| {
-                session.unwrap(header, ciphertext, tag, body)
-            }))
-        });
-        agreed(library, reference)
+            },
+            |image, body| {
+                number(on_image(image, |session| {
+                    session.unwrap(header, ciphertext, tag, body)
+                }))
+            },
+        )
     }
 }
 

@@ -3,13 +3,13 @@
 crate::pairs::pair_calls!(feefledown_wrap, feefledown_unwrap);
 
 extern "C" {
-    fn feefledown_open(
+    pub fn feefledown_open(
         key: *const u8,
         key_length: usize,
         image: *mut u8,
         image_length: usize,
     ) -> u8;
-    fn feefledown_sha3_256(
+    pub fn feefledown_sha3_256(
         message: *const u8,
         message_length: usize,
         digest: *mut u8,

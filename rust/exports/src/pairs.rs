@@ -4,7 +4,7 @@
 macro_rules! pair_calls {
     ($wrap:ident, $unwrap:ident) => {
         extern "C" {
-            fn $wrap(
+            pub fn $wrap(
                 image: *mut u8,
                 image_length: usize,
                 header: *const u8,
@@ -14,7 +14,7 @@ macro_rules! pair_calls {
                 out: *mut u8,
                 out_length: usize,
             ) -> u8;
-            fn $unwrap(
+            pub fn $unwrap(
                 image: *mut u8,
                 image_length: usize,
                 header: *const u8,

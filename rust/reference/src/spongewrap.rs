@@ -26,7 +26,7 @@ pub const SPENT: Refusal = 7;
 pub const TAG: Refusal = 8;
 
 /// The lengths that keys and tags may have.
-const KEYS_AND_TAGS: RangeInclusive<usize> = 16..=256;
+pub const KEYS_AND_TAGS: RangeInclusive<usize> = 16..=256;
 
 /// The longest header.
 pub const MOST_HEADER: usize = 65_535;

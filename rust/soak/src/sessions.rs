@@ -7,7 +7,7 @@ use reference::desk::on_image;
 use reference::spongewrap::Refusal;
 
 /// An open at a rate and tag length, into an image that has held anything.
-pub fn open(random: &mut Random, call: impl FnOnce(&[u8], &mut [u8]) -> u8, rate: u16, tag: u16) {
+pub fn open(random: &mut Random, call: impl Fn(&[u8], &mut [u8]) -> u8, rate: u16, tag: u16) {
     let (key, image) = (key(random), blank(random));
     opened(call, rate, tag, &key, &image);
 }

@@ -1,5 +1,6 @@
 //! The C surface against the reference.
 
-mod empty;
 mod hashes;
+mod header;
+mod null;
 mod sessions;
