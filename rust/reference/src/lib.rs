@@ -8,7 +8,8 @@
 //! the library's form (`desk`, `bundle::entry_at`, `Duplex::duplexing_into`).
 //!
 //! So it is itself held to what others made: NIST's response files for the hashes, the tables of
-//! source document 002, published values of the permutations, and document 01's examples.
+//! source document 002, published values of the permutations, document 01's examples, and sessions
+//! and bundles of a third program, written from the paper and the standard apart from both.
 
 pub mod bundle;
 pub mod desk;

@@ -1,11 +1,10 @@
 //! The hashes against every case of NIST's response files, and against blocks padded by hand.
-//!
-//! The files are looked for in crates/vectors/data, or in the folder FEEFLEDOWN_VECTORS names.
+
+mod response;
 
 use reference::keccak::{bytes_of, lanes_of, permuted_1600};
 use reference::sponge::{sha3_256, shake128, shake256, Absorbing};
 use std::collections::HashMap;
-use std::path::{Path, PathBuf};
 
 /// One of the two functions that fill a slice.
 type Shake = fn(&[u8], &mut [u8]);
@@ -22,11 +21,7 @@ impl Case {
 
     /// The value of a name that is a string of bytes in hexadecimal digits.
     fn bytes(&self, name: &str) -> Vec<u8> {
-        let digits = &self.0[name];
-        let starts = (0..digits.len()).step_by(2);
-        starts
-            .map(|at| u8::from_str_radix(&digits[at..at + 2], 16).unwrap())
-            .collect()
+        response::bytes(&self.0[name])
     }
 
     /// The message: the file spells an empty one as one byte, so its length in bits decides.
@@ -40,27 +35,15 @@ impl Case {
     }
 }
 
-/// The folder of the response files.
-fn folder() -> PathBuf {
-    match std::env::var_os("FEEFLEDOWN_VECTORS") {
-        Some(named) => PathBuf::from(named),
-        None => Path::new(env!("CARGO_MANIFEST_DIR")).join("../../crates/vectors/data"),
-    }
-}
-
 /// All cases of a response file; each ends at its digest or output.
 fn cases(file: &str) -> Vec<Case> {
-    let path = folder().join(file);
-    let text = std::fs::read_to_string(&path).unwrap_or_else(|error| panic!("{path:?}: {error}"));
     let mut latest = Case::default();
     let mut cases = Vec::new();
-    for line in text.lines().filter(|line| !line.starts_with('#')) {
-        let line = line.trim().trim_matches(['[', ']']);
-        if let Some((name, value)) = line.split_once(" = ") {
-            latest.0.insert(name.to_string(), value.to_string());
-            if name == "MD" || name == "Output" {
-                cases.push(latest.clone());
-            }
+    for (name, value) in response::fields(file) {
+        let ends = name == "MD" || name == "Output";
+        latest.0.insert(name, value);
+        if ends {
+            cases.push(latest.clone());
         }
     }
     cases
