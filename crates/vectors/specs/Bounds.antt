@@ -3,10 +3,20 @@ use Prim.Native.Nat.{ℕ, _+_, _≤_}
 use mathlib.Core.Bool.{Bool, true, false}
 use mathlib.Core.List.{List}
 use lib.ListN.{length}
+use Rattle.vectors.specs.declared.sessions.Pair.{Pair}
+use Rattle.vectors.specs.declared.tally.Tally.{Tally}
 
 -- the elements from a up to e are there
 abbrev pub Part : ℕ → ℕ → List ℕ → Type 0
 Part a e l = (a ≤ e) × (e ≤ length l)
+
+-- the parts of a pair are whole in their buffers
+abbrev pub Within : Pair → List ℕ → List ℕ → List ℕ → Type 0
+Within p header body due = (p .header ≤ length header) × (p .body ≤ length body) × (p .cipher ≤ length due) × (p .due ≤ length due)
+
+-- of at most n cases no more agreed than were run
+abbrev pub Tallied : Tally → ℕ → Type 0
+Tallied t n = (t .agreed ≤ t .run) × (t .run ≤ n)
 
 -- a Monte Carlo output of n bytes: it has a last two, and 256 hold the longest
 abbrev pub Chain : ℕ → ℕ → ℕ → Type 0

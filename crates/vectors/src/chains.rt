@@ -1,13 +1,14 @@
 // The Monte Carlo files, by the rules of NIST's SHA3VS: each case is the last of a thousand hashes, and each hash takes its
 // message from the output before. For SHA3-256 the message is the whole digest. For SHAKE it is the first 16 bytes, zeros
 // past a shorter output, and the last two bytes choose the length of the next output. The first output has the most bytes.
-ghost use Prim.Native.Nat.{_+_, _≤_, _<_};
+ghost use mathlib.Core.Path.{_≡_};
+ghost use Prim.Native.Nat.{_+_, _*_, _≤_, _<_};
 ghost use Rattle.vectors.specs.Bounds.{Chain};
-use crate::fields;
 use crate::hashes;
 use crate::hashes::Hash;
 use crate::lines;
 use crate::lines::Unread;
+use crate::named;
 use crate::tally::Tally;
 
 // The lengths of a file's outputs in bits: the least, the most, and that of the case.
@@ -37,13 +38,13 @@ impl Link {
 
 // The lengths after one more line.
 fn read(lengths: Lengths, line: &[u8]) -> Lengths {
-    let least = fields::number_after(line, b"[L = ", lengths.least);
-    let most = fields::number_after(line, b"[L = ", lengths.most);
-    let output = fields::number_after(line, b"[L = ", lengths.output);
+    let least = named::number_after(line, b"[L = ", lengths.least);
+    let most = named::number_after(line, b"[L = ", lengths.most);
+    let output = named::number_after(line, b"[L = ", lengths.output);
     Lengths {
-        least: fields::number_after(line, b"[Minimum Output Length (bits) = ", least),
-        most: fields::number_after(line, b"[Maximum Output Length (bits) = ", most),
-        output: fields::number_after(line, b"Outputlen = ", output),
+        least: named::number_after(line, b"[Minimum Output Length (bits) = ", least),
+        most: named::number_after(line, b"[Maximum Output Length (bits) = ", most),
+        output: named::number_after(line, b"Outputlen = ", output),
     }
 }
 
@@ -56,7 +57,9 @@ fn within(x: usize, least: usize, most: usize) -> usize
 }
 
 // The number of two bytes, big-endian.
-fn two_bytes(high: u8, low: u8) -> usize {
+fn two_bytes(high: u8, low: u8) -> usize
+    ensures { λ r. ⌜ r ≡ 256 * high + low ⌝ }
+{
     256 * high as usize + low as usize
 }
 
@@ -120,8 +123,8 @@ fn case_end(link: Link, hash: Hash, lengths: Lengths) -> Link {
 // The chain's start where the line has it, as an output that is the first message; else the link as it was.
 fn started(link: Link, line: &[u8], most: usize) -> Link {
     let mut output = [0u8; 256];
-    let n = fields::bytes_after(line, b"Seed = ", &mut output, 0);
-    let n = fields::bytes_after(line, b"Msg = ", &mut output, n);
+    let n = named::bytes_after(line, b"Seed = ", &mut output, 0);
+    let n = named::bytes_after(line, b"Msg = ", &mut output, n);
     if n == 0 {
         return link;
     }
@@ -134,7 +137,7 @@ fn started(link: Link, line: &[u8], most: usize) -> Link {
 
 // The link after a line, which may have the chain's start or end a case.
 fn moved(link: Link, hash: Hash, lengths: Lengths, line: &[u8]) -> Link {
-    if fields::is_result(line) {
+    if named::is_result(line) {
         return case_end(link, hash, lengths);
     }
     started(link, line, lengths.most)
@@ -143,7 +146,7 @@ fn moved(link: Link, hash: Hash, lengths: Lengths, line: &[u8]) -> Link {
 // Whether the link at the end of a case is what the line has.
 fn agrees(link: Link, lengths: Lengths, line: &[u8]) -> bool {
     let mut expected = [0u8; 256];
-    let n = fields::result(line, &mut expected);
+    let n = named::result(line, &mut expected);
     if n == 0 {
         return false;
     }
@@ -162,7 +165,7 @@ fn judged(tally: Tally, link: Link, lengths: Lengths, line: &[u8]) -> Tally
     requires { ⌜ (tally .agreed ≤ tally .run) × (tally .run < 65536) ⌝ }
     ensures { λ r. ⌜ (r .agreed ≤ r .run) × (r .run ≤ tally .run + 1) ⌝ }
 {
-    if fields::is_result(line) {
+    if named::is_result(line) {
         return tally.counted(agrees(link, lengths, line));
     }
     tally

@@ -1,12 +1,12 @@
 // The worked examples of document 01 that are run and not proved, a line for each.
-use crate::fields;
+use crate::named;
 use crate::tally;
 use spongewrap::Session;
 
 // SHA3-256 of 135 bytes 0x41 as OpenSSL and Python give it, spelled as in NIST's files.
 fn known_digest() -> [u8; 32] {
     let mut digest = [0u8; 32];
-    fields::result(
+    named::result(
         b"MD = fb26b42ffe085f98796486a734c0639a8935a7845268ac2be76b6655d86d1d65",
         &mut digest,
     );

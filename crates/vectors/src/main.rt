@@ -1,11 +1,14 @@
-// Runs every case of NIST's response files for SHA3-256, SHAKE128 and SHAKE256 through the library, and prints for each file
-// how many cases it has, how many agree, and the first that does not. Then document 01's examples that are run.
+// Runs every case of NIST's response files for SHA3-256, SHAKE128 and SHAKE256 through the library, and of the files of sessions
+// and bundles that a program apart from it made, and prints for each file how many cases it has, how many agree, and the first that
+// does not. Then document 01's examples that are run.
+mod bundles;
 mod chains;
 mod examples;
-mod fields;
 mod hashes;
 mod lines;
 mod messages;
+mod named;
+mod sessions;
 mod tally;
 
 use hashes::Hash;
@@ -37,6 +40,38 @@ fn chains_of(name: &[u8], hash: Hash) {
     tally::print_tally(name, tally);
 }
 
+// Runs the file of sessions and prints its line.
+fn sessions_of(name: &[u8]) {
+    let fd = os::open_read(name);
+    if fd < 0 {
+        tally::print_missing(name);
+        return;
+    }
+    let mut buffer = io::large_buffer();
+    let mut header = io::large_buffer();
+    let mut body = io::large_buffer();
+    let mut due = io::large_buffer();
+    let tally = sessions::run(fd, &mut buffer, &mut header, &mut body, &mut due);
+    libc::close(fd);
+    tally::print_tally(name, tally);
+}
+
+// Runs the file of bundles and prints its line.
+fn bundles_of(name: &[u8]) {
+    let fd = os::open_read(name);
+    if fd < 0 {
+        tally::print_missing(name);
+        return;
+    }
+    let mut buffer = io::large_buffer();
+    let mut header = io::large_buffer();
+    let mut text = io::large_buffer();
+    let mut bytes = io::large_buffer();
+    let tally = bundles::run(fd, &mut buffer, &mut header, &mut text, &mut bytes);
+    libc::close(fd);
+    tally::print_tally(name, tally);
+}
+
 // The files of SHA3-256.
 fn sha3_256_files() {
     messages_of(b"SHA3_256ShortMsg.rsp", Hash::Sha3_256);
@@ -64,5 +99,7 @@ fn main() {
     sha3_256_files();
     shake128_files();
     shake256_files();
+    sessions_of(b"SpongeWrap_sessions.rsp");
+    bundles_of(b"Bundle_v1.rsp");
     examples::print_all();
 }

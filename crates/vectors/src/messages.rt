@@ -1,11 +1,11 @@
 // The files of single messages: short, long, and of variable output.
 ghost use Prim.Native.Nat.{_+_, _≤_, _<_};
 ghost use lib.ListN.{length};
-use crate::fields;
 use crate::hashes;
 use crate::hashes::Hash;
 use crate::lines;
 use crate::lines::Unread;
+use crate::named;
 use crate::tally::Tally;
 
 // A case as far as it is read: the lengths that the file states, in bits, and the bytes of the message.
@@ -20,12 +20,12 @@ fn read(case: Case, line: &[u8], message: &mut [u8]) -> Case
     requires { ⌜ case .message ≤ length (now message) ⌝ }
     ensures { λ r. ⌜ r .message ≤ length (now (message .exit)) ⌝ }
 {
-    let input = fields::number_after(line, b"Len = ", case.input);
-    let input = fields::number_after(line, b"[Input Length = ", input);
-    let output = fields::number_after(line, b"[L = ", case.output);
-    let output = fields::number_after(line, b"[Outputlen = ", output);
-    let output = fields::number_after(line, b"Outputlen = ", output);
-    let read = fields::bytes_after(line, b"Msg = ", message, case.message);
+    let input = named::number_after(line, b"Len = ", case.input);
+    let input = named::number_after(line, b"[Input Length = ", input);
+    let output = named::number_after(line, b"[L = ", case.output);
+    let output = named::number_after(line, b"[Outputlen = ", output);
+    let output = named::number_after(line, b"Outputlen = ", output);
+    let read = named::bytes_after(line, b"Msg = ", message, case.message);
     Case {
         input,
         output,
@@ -45,7 +45,7 @@ fn agrees(case: Case, hash: Hash, line: &[u8], message: &[u8]) -> bool
     requires { ⌜ (case .message ≤ length (now message)) × (length (now message) ≤ 65536) ⌝ }
 {
     let mut expected = [0u8; 256];
-    let n = fields::result(line, &mut expected);
+    let n = named::result(line, &mut expected);
     if n == 0 {
         return false;
     }
@@ -66,7 +66,7 @@ fn judged(tally: Tally, case: Case, hash: Hash, line: &[u8], message: &[u8]) -> 
     requires { ⌜ (case .message ≤ length (now message)) × (length (now message) ≤ 65536) ⌝ }
     ensures { λ r. ⌜ (r .agreed ≤ r .run) × (r .run ≤ tally .run + 1) ⌝ }
 {
-    if fields::is_result(line) {
+    if named::is_result(line) {
         return tally.counted(agrees(case, hash, line, message));
     }
     tally

@@ -2,8 +2,8 @@
 use Prim.Native.Nat.{_≤_, _<_, _-_}
 use lib.ListN.{length}
 use borrow.Author.Needs.{needs}
-use Rattle.vectors.proofs.fields.number.Statement.{statement}
-use Rattle.vectors.proofs.fields.number.Tie as tie
+use Rattle.vectors.proofs.named.number.Statement.{statement}
+use Rattle.vectors.proofs.named.number.Tie as tie
 
 abbrev Inv-loop : tie.InvT-loop
 Inv-loop text n₀ i₀ n i = (i ≤ length text) × (n < 10000000)

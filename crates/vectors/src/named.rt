@@ -1,12 +1,25 @@
 // The fields of a line: a name, and a number or bytes in hexadecimal digits after it.
+ghost use mathlib.Core.Path.{_≡_};
+ghost use mathlib.Core.Bool.{true};
 ghost use Prim.Native.Nat.{_≤_};
-ghost use lib.ListN.{length};
+ghost use lib.ListN.{length, take};
 
-// What follows the name; nothing where the line has another. No field of the files is empty.
+// Whether the line starts with the name.
+pub fn is_named(line: &[u8], name: &[u8]) -> bool
+    ensures { λ r. ⌜ (r ≡ true → take (length (now (name .entry))) (now (line .entry)) ≡ now (name .entry)) × (take (length (now (name .entry))) (now (line .entry)) ≡ now (name .entry) → r ≡ true) ⌝ }
+{
+    let n = name.len();
+    if line.len() < n {
+        return false;
+    }
+    check::same(&line[0..n], name)
+}
+
+// What follows the name; nothing where the line has another.
 fn value<'a>(line: &'a [u8], name: &[u8]) -> &'a [u8] {
     let n = name.len();
     if n <= line.len() {
-        if check::same(&line[0..n], name) {
+        if is_named(line, name) {
             return &line[n..];
         }
     }
@@ -103,6 +116,22 @@ pub fn bytes_after(line: &[u8], name: &[u8], out: &mut [u8], before: usize) -> u
     } else {
         decode(text, out)
     }
+}
+
+// The same for a field that may be empty, and whose name is given without the blank at its end.
+pub fn text_after(line: &[u8], name: &[u8], out: &mut [u8], before: usize) -> usize
+    requires { ⌜ before ≤ length (now out) ⌝ }
+    ensures { λ r. ⌜ r ≤ length (now (out .exit)) ⌝ }
+{
+    if !is_named(line, name) {
+        return before;
+    }
+    let n = name.len();
+    if line.len() <= n {
+        return 0;
+    }
+    let start = n + 1;
+    decode(&line[start..], out)
 }
 
 // Whether a line ends a case: it has the digest or the output.

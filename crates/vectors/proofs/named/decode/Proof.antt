@@ -3,8 +3,8 @@ use mathlib.Core.Path.{_≡_}
 use Prim.Native.Nat.{_≤_, _-_}
 use lib.ListN.{length}
 use borrow.Author.Needs.{needs}
-use Rattle.vectors.proofs.fields.decode.Statement.{statement}
-use Rattle.vectors.proofs.fields.decode.Tie as tie
+use Rattle.vectors.proofs.named.decode.Statement.{statement}
+use Rattle.vectors.proofs.named.decode.Tie as tie
 
 abbrev Inv-loop : tie.InvT-loop
 Inv-loop digits out₀ n i₀ out i = (i ≤ n) × (n ≤ length out₀) × (length out ≡ length out₀)
