@@ -3,7 +3,7 @@ use Prim.Native.Nat.{ℕ, _+_, _≤_}
 use mathlib.Core.Bool.{Bool, true, false}
 use mathlib.Core.List.{List}
 use lib.ListN.{length}
-use Rattle.vectors.specs.declared.sessions.Pair.{Pair}
+use Rattle.vectors.specs.declared.pairs.Pair.{Pair}
 use Rattle.vectors.specs.declared.tally.Tally.{Tally}
 
 -- the elements from a up to e are there

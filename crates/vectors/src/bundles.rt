@@ -4,98 +4,12 @@ ghost use mathlib.Core.Path.{_≡_};
 ghost use Prim.Native.Nat.{_+_, _≤_};
 ghost use lib.ListN.{length};
 ghost use Rattle.vectors.specs.Bounds.{Part, Tallied};
+use crate::entries;
+use crate::entries::Made;
 use crate::lines;
 use crate::lines::Unread;
 use crate::named;
 use crate::tally::Tally;
-use bundle::Entry;
-use bundle::Surveyed;
-use spongewrap::Session;
-
-// A bundle as far as it has come: the sessions that write and read it, where its next entry will stand, and whether everything
-// agreed so far.
-struct Made {
-    agrees: bool,
-    writer: Session,
-    reader: Session,
-    place: usize,
-}
-
-// No bundle yet, by both sessions of a key.
-fn fresh(key: &[u8]) -> Made {
-    let answer = Session::open(key);
-    let number = answer.number;
-    let writer = answer.session;
-    let reader = answer.session;
-    Made {
-        agrees: number == 0,
-        writer,
-        reader,
-        place: bundle::FIRST,
-    }
-}
-
-// No bundle, which agrees with none: no key is so short.
-fn unmade() -> Made {
-    fresh(b"")
-}
-
-// The place after the entry at one, or the same place where none is whole.
-fn after(bytes: &[u8], place: usize) -> usize {
-    let entry = bundle::entry_at(bytes, place);
-    let Entry::Whole { header, body, next } = entry else {
-        return place;
-    };
-    next
-}
-
-// The bundle after the writer has answered `number` and come to `writer`. The reader opens the entry that stands there now into an
-// output: it agrees if that then holds the body, and nothing more.
-fn followed(
-    made: Made,
-    number: u8,
-    writer: Session,
-    bytes: &[u8],
-    body: &[u8],
-    out: &mut [u8],
-) -> Made {
-    let place = made.place;
-    let before = made.reader;
-    let answer = bundle::open_entry(before, bytes, place, out);
-    let opened = answer.number;
-    let reader = answer.session;
-    let same = check::same(&out[..], body);
-    Made {
-        agrees: made.agrees && number == 0 && opened == 0 && same,
-        writer,
-        reader,
-        place: after(bytes, place),
-    }
-}
-
-// The bundle with its label.
-fn started(made: Made, label: &[u8], bytes: &mut [u8]) -> Made {
-    let before = made.writer;
-    let answer = bundle::start(before, label, bytes);
-    let number = answer.number;
-    let writer = answer.session;
-    let mut none = [0u8; 0];
-    followed(made, number, writer, &bytes[..], b"", &mut none)
-}
-
-// The bundle with one more header and body. No body of the file has more than 1,024 bytes.
-fn added(made: Made, header: &[u8], body: &[u8], bytes: &mut [u8]) -> Made {
-    let before = made.writer;
-    let answer = bundle::add(before, header, body, bytes);
-    let number = answer.number;
-    let writer = answer.session;
-    let mut out = [0u8; 1024];
-    let n = body.len();
-    if 1024 < n {
-        return unmade();
-    }
-    followed(made, number, writer, &bytes[..], body, &mut out[0..n])
-}
 
 // The header of a line, and how many bytes it has; or, where the line has another field, as many as before.
 fn header_after(line: &[u8], header: &mut [u8], before: usize) -> usize
@@ -109,43 +23,23 @@ fn header_after(line: &[u8], header: &mut [u8], before: usize) -> usize
 fn moved(made: Made, line: &[u8], header: &[u8], text: &mut [u8], bytes: &mut [u8]) -> Made {
     if named::is_named(line, b"Key =") {
         let n = named::text_after(line, b"Key =", text, 0);
-        return fresh(&text[0..n]);
+        return entries::fresh(&text[0..n]);
     }
     if named::is_named(line, b"Label =") {
         let n = named::text_after(line, b"Label =", text, 0);
-        return started(made, &text[0..n], bytes);
+        return entries::started(made, &text[0..n], bytes);
     }
     if named::is_named(line, b"Body =") {
         let n = named::text_after(line, b"Body =", text, 0);
-        return added(made, header, &text[0..n], bytes);
+        return entries::added(made, header, &text[0..n], bytes);
     }
     made
-}
-
-// How many entries a survey finds; none where it refuses.
-fn entries(bytes: &[u8]) -> usize {
-    let answer = bundle::survey(bytes);
-    let Surveyed::Entries(n) = answer else {
-        return 0;
-    };
-    n
-}
-
-// Whether the bundle is the one that is due, which has an entry for each pair of the writer's.
-fn is_due(made: Made, bytes: &[u8], due: &[u8]) -> bool {
-    let n = due.len();
-    if bytes.len() < n {
-        return false;
-    }
-    let writer = made.writer;
-    let counted = entries(due) == writer.pairs as usize;
-    made.agrees && counted && check::same(&bytes[0..n], due)
 }
 
 // Whether the bundle is that of a line.
 fn ends(made: Made, line: &[u8], text: &mut [u8], bytes: &[u8]) -> bool {
     let n = named::text_after(line, b"Bundle =", text, 0);
-    is_due(made, bytes, &text[0..n])
+    entries::is_due(made, bytes, &text[0..n])
 }
 
 // The tally after a line, which may end a bundle; such a line changes nothing else.
@@ -170,7 +64,7 @@ struct Reading {
 fn unread_file() -> Reading
     ensures { λ r. ⌜ (r .header ≡ 0) × Tallied (r .tally) 0 ⌝ }
 {
-    let made = unmade();
+    let made = entries::unmade();
     let tally = Tally::none();
     Reading {
         header: 0,

@@ -2,8 +2,8 @@
 // message from the output before. For SHA3-256 the message is the whole digest. For SHAKE it is the first 16 bytes, zeros
 // past a shorter output, and the last two bytes choose the length of the next output. The first output has the most bytes.
 ghost use mathlib.Core.Path.{_≡_};
-ghost use Prim.Native.Nat.{_+_, _*_, _≤_, _<_};
-ghost use Rattle.vectors.specs.Bounds.{Chain};
+ghost use Prim.Native.Nat.{_+_, _*_, _≤_};
+ghost use Rattle.vectors.specs.Bounds.{Chain, Tallied};
 use crate::hashes;
 use crate::hashes::Hash;
 use crate::lines;
@@ -162,8 +162,8 @@ fn agrees(link: Link, lengths: Lengths, line: &[u8]) -> bool {
 
 // The tally after a line, which may end a case.
 fn judged(tally: Tally, link: Link, lengths: Lengths, line: &[u8]) -> Tally
-    requires { ⌜ (tally .agreed ≤ tally .run) × (tally .run < 65536) ⌝ }
-    ensures { λ r. ⌜ (r .agreed ≤ r .run) × (r .run ≤ tally .run + 1) ⌝ }
+    requires { ⌜ Tallied tally 65535 ⌝ }
+    ensures { λ r. ⌜ Tallied r (tally .run + 1) ⌝ }
 {
     if named::is_result(line) {
         return tally.counted(agrees(link, lengths, line));

@@ -3,11 +3,13 @@
 // does not. Then document 01's examples that are run.
 mod bundles;
 mod chains;
+mod entries;
 mod examples;
 mod hashes;
 mod lines;
 mod messages;
 mod named;
+mod pairs;
 mod sessions;
 mod tally;
 

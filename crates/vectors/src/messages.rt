@@ -1,6 +1,7 @@
 // The files of single messages: short, long, and of variable output.
-ghost use Prim.Native.Nat.{_+_, _≤_, _<_};
+ghost use Prim.Native.Nat.{_+_, _≤_};
 ghost use lib.ListN.{length};
+ghost use Rattle.vectors.specs.Bounds.{Tallied};
 use crate::hashes;
 use crate::hashes::Hash;
 use crate::lines;
@@ -62,9 +63,9 @@ fn agrees(case: Case, hash: Hash, line: &[u8], message: &[u8]) -> bool
 
 // The tally after a line, which may end a case.
 fn judged(tally: Tally, case: Case, hash: Hash, line: &[u8], message: &[u8]) -> Tally
-    requires { ⌜ (tally .agreed ≤ tally .run) × (tally .run < 65536) ⌝ }
+    requires { ⌜ Tallied tally 65535 ⌝ }
     requires { ⌜ (case .message ≤ length (now message)) × (length (now message) ≤ 65536) ⌝ }
-    ensures { λ r. ⌜ (r .agreed ≤ r .run) × (r .run ≤ tally .run + 1) ⌝ }
+    ensures { λ r. ⌜ Tallied r (tally .run + 1) ⌝ }
 {
     if named::is_result(line) {
         return tally.counted(agrees(case, hash, line, message));

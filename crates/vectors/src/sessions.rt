@@ -7,6 +7,9 @@ ghost use Rattle.vectors.specs.Bounds.{Part, Tallied, Within};
 use crate::lines;
 use crate::lines::Unread;
 use crate::named;
+use crate::pairs;
+use crate::pairs::Course;
+use crate::pairs::Pair;
 use crate::tally::Tally;
 use spongewrap::Session;
 
@@ -18,20 +21,6 @@ struct Stated {
     calls: usize,
 }
 
-// How many bytes of a pair are read: of its header, its body, its ciphertext, and its ciphertext and tag.
-struct Pair {
-    header: usize,
-    body: usize,
-    cipher: usize,
-    due: usize,
-}
-
-// A session as far as it has come, and whether everything agreed so far.
-struct Course {
-    agrees: bool,
-    session: Session,
-}
-
 // What is stated after one more line.
 fn stated_after(before: Stated, line: &[u8]) -> Stated {
     Stated {
@@ -39,35 +28,6 @@ fn stated_after(before: Stated, line: &[u8]) -> Stated {
         tag: named::number_after(line, b"TagLength = ", before.tag),
         pairs: named::number_after(line, b"Pairs = ", before.pairs),
         calls: named::number_after(line, b"Calls = ", before.calls),
-    }
-}
-
-// The tag of a line, put behind the ciphertext, and how many bytes both have; or, where the line has another field, as many as before.
-fn due_after(line: &[u8], due: &mut [u8], cipher: usize, before: usize) -> usize
-    requires { ⌜ (cipher ≤ length (now due)) × (before ≤ length (now due)) ⌝ }
-    ensures { λ r. ⌜ r ≤ length (now (due .exit)) ⌝ }
-{
-    if !named::is_named(line, b"Tag =") {
-        return before;
-    }
-    let tag = named::text_after(line, b"Tag =", &mut due[cipher..], 0);
-    cipher + tag
-}
-
-// The pair after one more line.
-fn pair_after(before: Pair, line: &[u8], header: &mut [u8], body: &mut [u8], due: &mut [u8]) -> Pair
-    requires { ⌜ Within before (now header) (now body) (now due) ⌝ }
-    ensures { λ r. ⌜ Within r (now (header .exit)) (now (body .exit)) (now (due .exit)) ⌝ }
-{
-    let h = named::text_after(line, b"Header =", header, before.header);
-    let b = named::text_after(line, b"Body =", body, before.body);
-    let c = named::text_after(line, b"Cipher =", due, before.cipher);
-    let d = due_after(line, due, c, before.due);
-    Pair {
-        header: h,
-        body: b,
-        cipher: c,
-        due: d,
     }
 }
 
@@ -96,61 +56,6 @@ fn opened_by(line: &[u8], stated: Stated, key: &mut [u8]) -> Course {
     opened(&key[0..n], stated.rate, stated.tag)
 }
 
-// Seals a pair into an output. It agrees if that holds what is due, and nothing more.
-fn sealed(s: Session, header: &[u8], body: &[u8], due: &[u8], out: &mut [u8]) -> Course {
-    let answer = spongewrap::wrap(s, header, body, out);
-    let number = answer.number;
-    let session = answer.session;
-    let same = check::same(&out[..], due);
-    Course {
-        agrees: number == 0 && same,
-        session,
-    }
-}
-
-// Whether a pair opens into an output that then holds its body, and nothing more.
-fn opens(
-    s: Session,
-    header: &[u8],
-    cipher: &[u8],
-    tag: &[u8],
-    body: &[u8],
-    out: &mut [u8],
-) -> bool {
-    let answer = spongewrap::unwrap(s, header, cipher, tag, out);
-    let number = answer.number;
-    number == 0 && check::same(&out[..], body)
-}
-
-// The course after a pair, which its session seals and the same session opens. No pair of the file has more than 1,024 bytes.
-fn paired(before: Course, header: &[u8], body: &[u8], due: &[u8], cipher: usize) -> Course {
-    let mut room = [0u8; 1024];
-    let mut other = [0u8; 1024];
-    let s = before.session;
-    let n = due.len();
-    let m = body.len();
-    if 1024 < n || 1024 < m || n < cipher {
-        return Course {
-            agrees: false,
-            session: s,
-        };
-    }
-    let after = sealed(s, header, body, due, &mut room[0..n]);
-    let again = opens(
-        s,
-        header,
-        &due[0..cipher],
-        &due[cipher..],
-        body,
-        &mut other[0..m],
-    );
-    let session = after.session;
-    Course {
-        agrees: before.agrees && after.agrees && again,
-        session,
-    }
-}
-
 // The course after a line, which may have a session's key or end a pair.
 fn moved(
     before: Course,
@@ -172,7 +77,7 @@ fn moved(
         let b = pair.body;
         let c = pair.cipher;
         let d = pair.due;
-        return paired(before, &header[0..h], &body[0..b], &due[0..d], c);
+        return pairs::paired(before, &header[0..h], &body[0..b], &due[0..d], c);
     }
     before
 }
@@ -250,7 +155,7 @@ fn read(before: Reading, line: &[u8], header: &mut [u8], body: &mut [u8], due: &
     let last_tally = before.tally;
     let tally = judged(last_tally, last_course, last_stated, line);
     let stated = stated_after(last_stated, line);
-    let pair = pair_after(last_pair, line, header, body, due);
+    let pair = pairs::pair_after(last_pair, line, header, body, due);
     let course = moved(
         last_course,
         stated,

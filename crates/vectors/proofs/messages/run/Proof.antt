@@ -2,7 +2,7 @@
 use mathlib.Core.Path.{_≡_}
 use Prim.Native.Nat.{_≤_, _-_}
 use lib.ListN.{length}
-use Rattle.vectors.specs.Bounds.{Part}
+use Rattle.vectors.specs.Bounds.{Part, Tallied}
 use borrow.Author.Needs.{needs}
 use Rattle.vectors.proofs.messages.run.Statement.{statement}
 use Rattle.vectors.proofs.messages.run.Tie as tie
@@ -13,8 +13,7 @@ Inv-loop hash fd buffer₀ message₀ unread₀ case₀ tally₀ turns₀ buffer
     × (length buffer ≡ length buffer₀)
     × (length message ≡ length message₀)
     × (case .message ≤ length message)
-    × (tally .agreed ≤ tally .run)
-    × (tally .run ≤ turns)
+    × Tallied tally turns
 
 abbrev μ-loop : tie.MeasureT-loop
 μ-loop hash fd buffer₀ message₀ unread₀ case₀ tally₀ turns₀ buffer message unread case tally turns =
