@@ -4,6 +4,7 @@ RELEASE = --release --offline
 SECONDS = 60
 DIST = target/dist
 STRICT = -Wall -Wextra -Werror -pedantic -Iinclude
+SANITIZED = -g -fsanitize=address,undefined -fno-sanitize-recover=all
 .PHONY: demo test lib bench soak compare probe desk
 
 # The front desk's day, and the same bundle as the lister sees it. The first time, what the programs stand on is proved: some minutes.
@@ -31,13 +32,20 @@ lib:
 	cp include/feefledown.h $(DIST)/
 	sed 's,@DIST@,$(abspath $(DIST)),' include/feefledown.pc.in > $(DIST)/feefledown.pc
 
-# The desk's program as C99 and as C++, run plain, and under valgrind where it is installed.
+# The C programs as C99 and as C++, run plain, under the sanitizers, and under valgrind where it is installed; and README's C.
 desk: lib
-	gcc -std=c99 $(STRICT) c/desk.c $(DIST)/libfeefledown.a -o target/desk
-	g++ -x c++ $(STRICT) c/desk.c -x none $(DIST)/libfeefledown.a -o target/desk-c++
-	./target/desk
-	./target/desk-c++ > target/desk.out
-	if command -v valgrind > target/valgrind.path; then valgrind -q --error-exitcode=1 ./target/desk > target/desk.out; fi
+	mkdir -p target/c
+	sed -n '/^```c$$/,/^```$$/ { /^```/!p }' README.md > target/c/readme.c
+	gcc -std=c99 $(STRICT) -c target/c/readme.c -o target/c/readme.o
+	set -e; for each in desk checks; do \
+	    gcc -std=c99 $(STRICT) c/$$each.c $(DIST)/libfeefledown.a -o target/c/$$each; \
+	    gcc -std=c99 $(STRICT) $(SANITIZED) c/$$each.c $(DIST)/libfeefledown.a -o target/c/$$each-sanitized; \
+	    g++ -x c++ $(STRICT) $(SANITIZED) c/$$each.c -x none $(DIST)/libfeefledown.a -o target/c/$$each-c++; \
+	    ./target/c/$$each; \
+	    ./target/c/$$each-sanitized; \
+	    ./target/c/$$each-c++; \
+	    if command -v valgrind > target/c/valgrind; then valgrind -q --error-exitcode=1 ./target/c/$$each; fi; \
+	done
 
 # Both archives and the lister beside the reference. All of the Rust side is built, and the compiler's advice is taken.
 compare: probe desk
