@@ -1,5 +1,5 @@
-/* What feefledown.h says, called through it: pairs come back, each refusal has its number and writes nothing, and NULL is an empty buffer.
-   It answers 0 only if everything went as it must. */
+/* What feefledown.h says, called through it: pairs come back, each refusal has its number and writes nothing, and NULL is an empty buffer;
+   and the worked bundle of docs/FORMAT.md, opened entry by entry. It answers 0 only if everything went as it must. */
 
 #include "feefledown.h"
 
@@ -153,6 +153,55 @@ static void hash_is_right(void) {
     expect(memcmp(digest, due, sizeof due) == 0, "its SHA3-256 is the published one");
 }
 
+/* The entry of a bundle at a place, opened by hand: its lengths are read, its parts must lie inside the bundle, and they are unwrapped.
+   The next place, or 0 if there is no whole entry or the library refuses it. */
+static size_t open_entry(uint8_t *image, const uint8_t *bundle, size_t length, size_t place, uint8_t *body, size_t body_room) {
+    if (place > length || length - place < 6) {
+        return 0;
+    }
+    const uint8_t *entry = bundle + place;
+    size_t header_length = (size_t)entry[0] << 8 | entry[1];
+    size_t body_length = (size_t)entry[2] << 24 | (size_t)entry[3] << 16 | (size_t)entry[4] << 8 | entry[5];
+    if (body_length > FEEFLEDOWN_BODY_MOST || length - place < 6 + header_length + body_length + FEEFLEDOWN_TAG) {
+        return 0;
+    }
+    const uint8_t *header = entry + 6, *ciphertext = header + header_length, *tag = ciphertext + body_length;
+    if (feefledown_unwrap(image, FEEFLEDOWN_IMAGE, header, header_length, ciphertext, body_length, tag, FEEFLEDOWN_TAG, body,
+                          body_room) != 0) {
+        return 0;
+    }
+    return place + 6 + header_length + body_length + FEEFLEDOWN_TAG;
+}
+
+/* The worked bundle of docs/FORMAT.md, which comes from outside the library. */
+static void worked_bundle_opens(void) {
+    static const uint8_t key[32] = {
+        0xdc, 0xcf, 0x2e, 0xc5, 0xad, 0xaa, 0xce, 0xa6, 0x43, 0xf1, 0x01, 0x07, 0x83, 0x2b, 0x92, 0x8c,
+        0x88, 0xcd, 0x08, 0x78, 0x74, 0x30, 0xe5, 0xeb, 0x33, 0x69, 0x91, 0x59, 0xd0, 0xcd, 0xb9, 0xe9,
+    };
+    static const uint8_t bundle[103] = {
+        0x01, 0x00, 0x00, 0x00, 0x62, 0x00, 0x16, 0x00, 0x00, 0x00, 0x00, 0xea, 0x24, 0x45, 0xac, 0x03,
+        0xd8, 0x9f, 0xa6, 0xeb, 0xb4, 0x6b, 0x9b, 0x8c, 0x5d, 0xbb, 0x94, 0x31, 0x14, 0x53, 0x30, 0x89,
+        0x29, 0x80, 0x93, 0x5f, 0xb7, 0x36, 0xd2, 0xe1, 0xaf, 0x55, 0x03, 0x5f, 0xf2, 0xfe, 0x34, 0x22,
+        0x51, 0x00, 0x09, 0x00, 0x00, 0x00, 0x17, 0xf8, 0x24, 0xb0, 0x87, 0x6b, 0xe3, 0x8e, 0x57, 0x89,
+        0x46, 0x3e, 0x90, 0xf9, 0xc2, 0x3f, 0x6e, 0xcc, 0x0f, 0xa6, 0x71, 0x89, 0x84, 0x49, 0x6e, 0x4f,
+        0xb2, 0x6d, 0x04, 0x43, 0x65, 0x19, 0x49, 0xe0, 0x72, 0xb5, 0x47, 0x70, 0x6a, 0x0a, 0x6d, 0xa3,
+        0x4b, 0x2c, 0x9b, 0x02, 0xf8, 0x81, 0x85,
+    };
+    static const uint8_t record[23] = {
+        0xd3, 0x68, 0xfd, 0xad, 0xd6, 0x05, 0x1c, 0xf9, 0x8e, 0xc9, 0xdf, 0x31, 0x76, 0x55, 0xe2, 0xe0,
+        0xe0, 0xc9, 0xe4, 0x71, 0xa7, 0x36, 0x87,
+    };
+    static const uint8_t numbers[16] = {0x00, 0x88, 0x00, 0x10, 0, 0, 0, 2, 0, 0, 0, 0, 0, 0, 0, 5};
+    uint8_t image[FEEFLEDOWN_IMAGE], body[MOST];
+    expect(feefledown_open(key, sizeof key, image, sizeof image) == 0, "the worked bundle's session opens");
+    expect(open_entry(image, bundle, sizeof bundle, 5, body, 0) == 49, "its entry zero opens, and the next stands at 49");
+    expect(open_entry(image, bundle, sizeof bundle, 49, body, sizeof body) == 103, "its entry one opens, and is the last");
+    expect(memcmp(body, record, sizeof record) == 0, "its body is the one that was sealed");
+    expect(memcmp(image, bundle + 87, FEEFLEDOWN_TAG) == 0, "the image begins with the last tag");
+    expect(memcmp(image + 200, numbers, sizeof numbers) == 0, "and ends with rate, tag length, pairs and calls");
+}
+
 int main(void) {
     version_agrees();
     pairs_come_back();
@@ -160,6 +209,7 @@ int main(void) {
     pairs_are_refused();
     null_is_empty();
     hash_is_right();
+    worked_bundle_opens();
     printf("%d things of the header looked at, %d wrong\n", looked, failures);
     return failures != 0;
 }
