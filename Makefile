@@ -1,11 +1,15 @@
-# A user's commands: demo, test, lib, bench, soak. `compare` is the part of the gate that comes after the proofs.
+# A user's commands: demo, test, lib, install, bench, soak. `compare` is the part of the gate that comes after the proofs.
 CARGO = cargo --quiet
 RELEASE = --release --offline
 SECONDS = 60
-DIST = target/dist
-STRICT = -Wall -Wextra -Werror -pedantic -Iinclude
+PREFIX = /usr/local
+DIST = dist
+ARCHIVE = $(DIST)/lib/libfeefledown.a
+VERSION = $(shell sed -n 's/^.define FEEFLEDOWN_VERSION "\(.*\)"/\1/p' include/feefledown.h)
+STRICT = -Wall -Wextra -Werror -pedantic
+INSTALLED = -Itarget/c/installed/include -Ltarget/c/installed/lib -lfeefledown
 SANITIZED = -g -fsanitize=address,undefined -fno-sanitize-recover=all
-.PHONY: demo test lib bench soak compare probe desk
+.PHONY: demo test lib install bench soak compare probe desk
 
 # The front desk's day, and the same bundle as the lister sees it. The first time, what the programs stand on is proved: some minutes.
 demo:
@@ -24,23 +28,34 @@ test:
 probe:
 	rt staticlib probe
 
-# What a C program links: the archive, the header and a pkg-config file.
+# What a C or Rust program links, in dist/, where no other target removes it: the archive, the header, and a pkg-config file that
+# finds them from where it stands itself.
 lib:
 	rt staticlib desk
-	mkdir -p $(DIST)
-	cp target/staticlib/libdesk.a $(DIST)/libfeefledown.a
-	cp include/feefledown.h $(DIST)/
-	sed 's,@DIST@,$(abspath $(DIST)),' include/feefledown.pc.in > $(DIST)/feefledown.pc
+	install -D -m 644 include/feefledown.h $(DIST)/include/feefledown.h
+	install -D -m 644 target/staticlib/libdesk.a $(ARCHIVE)
+	mkdir -p $(DIST)/lib/pkgconfig
+	sed 's,@VERSION@,$(VERSION),' include/feefledown.pc.in > $(DIST)/lib/pkgconfig/feefledown.pc
 
-# The C programs as C99 and as C++, run plain, under the sanitizers, and under valgrind where it is installed; and README's C.
+# The same three files below PREFIX: make install PREFIX=/opt/desk. What `make lib` left is made anew only if a source is newer.
+install: $(ARCHIVE)
+	set -e; for each in include/feefledown.h lib/libfeefledown.a lib/pkgconfig/feefledown.pc; do \
+	    install -D -m 644 $(DIST)/$$each $(DESTDIR)$(PREFIX)/$$each; \
+	done
+
+$(ARCHIVE): $(wildcard include/*) $(shell find crates -name '*.rt' -o -name '*.antt')
+	$(MAKE) lib
+
+# The C programs, over an installed copy, as C99 and as C++: run plain, under the sanitizers, and under valgrind where it is installed;
+# and README's C.
 desk: lib
-	mkdir -p target/c
+	$(MAKE) install PREFIX=target/c/installed
 	sed -n '/^```c$$/,/^```$$/ { /^```/!p }' README.md > target/c/readme.c
-	gcc -std=c99 $(STRICT) -c target/c/readme.c -o target/c/readme.o
+	gcc -std=c99 $(STRICT) $(INSTALLED) -c target/c/readme.c -o target/c/readme.o
 	set -e; for each in desk checks; do \
-	    gcc -std=c99 $(STRICT) c/$$each.c $(DIST)/libfeefledown.a -o target/c/$$each; \
-	    gcc -std=c99 $(STRICT) $(SANITIZED) c/$$each.c $(DIST)/libfeefledown.a -o target/c/$$each-sanitized; \
-	    g++ -x c++ $(STRICT) $(SANITIZED) c/$$each.c -x none $(DIST)/libfeefledown.a -o target/c/$$each-c++; \
+	    gcc -std=c99 $(STRICT) c/$$each.c $(INSTALLED) -o target/c/$$each; \
+	    gcc -std=c99 $(STRICT) $(SANITIZED) c/$$each.c $(INSTALLED) -o target/c/$$each-sanitized; \
+	    g++ -x c++ $(STRICT) $(SANITIZED) c/$$each.c -x none $(INSTALLED) -o target/c/$$each-c++; \
 	    ./target/c/$$each; \
 	    ./target/c/$$each-sanitized; \
 	    ./target/c/$$each-c++; \
