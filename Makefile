@@ -11,11 +11,20 @@ INSTALLED = -Itarget/c/installed/include -Ltarget/c/installed/lib -lfeefledown
 SANITIZED = -g -fsanitize=address,undefined -fno-sanitize-recover=all
 .PHONY: demo test lib install bench soak compare probe desk
 
-# The front desk's day, and the same bundle as the lister sees it. The first time, what the programs stand on is proved: some minutes.
+# The front desk's day, and the same bundle as the lister sees it. What the programs stand on is proved first, a crate at a time, lowest
+# first; what is proved already is not proved again.
+demo: NEEDED = $(shell awk -F: 'NR == FNR { if ($$1 ~ /^(frontdesk|lister)$$/) need = need " " $$1 $$2 " "; next } \
+    index(need, " " $$1 " ") { print $$1 }' crates.txt crates.txt)
 demo:
 	@mkdir -p target/demo && rm -f target/demo/bundle
-	@echo 'proving and building what the programs stand on ..'
-	@rt check frontdesk lister > target/demo/log 2>&1 || { tail -n 40 target/demo/log; false; }
+	@echo 'The demo stands on $(words $(NEEDED)) crates, which are proved before they run. The first time that takes some minutes.'
+	@left=$(words $(NEEDED)); for each in $(NEEDED); do \
+	    left=$$((left - 1)); \
+	    printf '  %-12s' $$each; \
+	    rt check $$each > target/demo/log 2>&1 || { echo FAILED; tail -n 40 target/demo/log; exit 1; }; \
+	    echo "$$(sed -n "s/^rt: $$each \(proved.*\)/\1/p" target/demo/log), $$left left"; \
+	done
+	@echo
 	@cd target/demo && ../bin/frontdesk
 	@echo
 	@echo 'The lister, on the same bundle:'
@@ -57,9 +66,9 @@ desk: lib
 	    gcc -std=c99 $(STRICT) $(SANITIZED) c/$$each.c $(INSTALLED) -o target/c/$$each-sanitized; \
 	    g++ -x c++ $(STRICT) $(SANITIZED) c/$$each.c -x none $(INSTALLED) -o target/c/$$each-c++; \
 	    ./target/c/$$each; \
-	    ./target/c/$$each-sanitized; \
-	    ./target/c/$$each-c++; \
-	    if command -v valgrind > target/c/valgrind; then valgrind -q --error-exitcode=1 ./target/c/$$each; fi; \
+	    ./target/c/$$each-sanitized > target/c/out; \
+	    ./target/c/$$each-c++ > target/c/out; \
+	    if command -v valgrind > target/c/out; then valgrind -q --error-exitcode=1 ./target/c/$$each > target/c/out; fi; \
 	done
 
 # Both archives and the lister beside the reference. All of the Rust side is built, and the compiler's advice is taken.
