@@ -55,12 +55,14 @@ install: $(ARCHIVE)
 $(ARCHIVE): $(wildcard include/*) $(shell find crates -name '*.rt' -o -name '*.antt')
 	$(MAKE) lib
 
-# The C programs, over an installed copy, as C99 and as C++: run plain, under the sanitizers, and under valgrind where it is installed;
-# and README's C.
+# The C programs, over an installed copy, as C99 and as C++: run plain, under the sanitizers, and under valgrind where it is installed.
+# README's C compiles, and an answer that nobody reads is warned of.
 desk: lib
 	$(MAKE) install PREFIX=target/c/installed
 	sed -n '/^```c$$/,/^```$$/ { /^```/!p }' README.md > target/c/readme.c
 	gcc -std=c99 $(STRICT) $(INSTALLED) -c target/c/readme.c -o target/c/readme.o
+	printf '#include <feefledown.h>\nvoid unread(uint8_t *d) { feefledown_sha3_256(NULL, 0, d, 32); }\n' > target/c/unread.c
+	gcc $(INSTALLED) -c target/c/unread.c -o target/c/unread.o 2>&1 | grep -q unused-result
 	set -e; for each in desk checks; do \
 	    gcc -std=c99 $(STRICT) c/$$each.c $(INSTALLED) -o target/c/$$each; \
 	    gcc -std=c99 $(STRICT) $(SANITIZED) c/$$each.c $(INSTALLED) -o target/c/$$each-sanitized; \

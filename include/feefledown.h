@@ -13,7 +13,7 @@
 
    Reuse. There is no nonce parameter: the label is the nonce. Never seal in two sessions with the same key and the same label. While
    two sessions have taken the same pairs they are the same session; in the first pair that differs, under the same header, both
-   bodies are masked by the same bytes up to and including the first 135 bytes in which they differ, so whoever has both
+   bodies are masked by the same bytes up to and including the first piece of 135 bytes in which they differ, so whoever has both
    ciphertexts has the xor of that much of both bodies. Sealing twice from one image, as from a copy kept on disk, is the same
    mistake. The library chooses no keys and no labels, and does not see their reuse.
 
@@ -28,8 +28,8 @@
    version 1, as any run of pairs, can be cut: nothing seals its end, and what is cut off behind a whole pair is not missed. That a
    call's time is independent of secrets is not promised.
 
-   Threads. The functions keep no state of their own, and allocate nothing. They may run on several threads at once, with an image
-   each. */
+   Threads. The functions keep no state of their own, and allocate nothing. They may run on several threads at once, with an image and
+   an output each. */
 
 #ifndef FEEFLEDOWN_H
 #define FEEFLEDOWN_H
