@@ -46,7 +46,7 @@ lib:
 	mkdir -p $(DIST)/lib/pkgconfig
 	sed 's,@VERSION@,$(VERSION),' include/feefledown.pc.in > $(DIST)/lib/pkgconfig/feefledown.pc
 
-# The same three files below PREFIX: make install PREFIX=/opt/desk. What `make lib` left is made anew only if a source is newer.
+# The same three files below PREFIX: make install PREFIX=$$HOME/desk. What `make lib` left is made anew only if a source is newer.
 install: $(ARCHIVE)
 	set -e; for each in include/feefledown.h lib/libfeefledown.a lib/pkgconfig/feefledown.pc; do \
 	    install -D -m 644 $(DIST)/$$each $(DESTDIR)$(PREFIX)/$$each; \

@@ -2,7 +2,7 @@
 ghost use Prim.Native.Nat.{_≤_};
 ghost use lib.ListN.{length};
 use crate::lines;
-use bundle::Answer;
+use bundle::Reply;
 use spongewrap::Session;
 
 // A new session from a key. A refused key gives a session that every call refuses.
@@ -26,7 +26,7 @@ pub fn end_of(bytes: &[u8]) -> usize
 }
 
 // Prints the line of an entry that was sealed at a place, and gives the session to go on with.
-fn show_sealed(answer: Answer, entry: u32, place: usize, header: &[u8], body: usize) -> Session {
+fn show_sealed(answer: Reply, entry: u32, place: usize, header: &[u8], body: usize) -> Session {
     let session = answer.session;
     lines::print_entry(entry as u64, place, header, body, session.calls);
     lines::print_sealed(answer.number);

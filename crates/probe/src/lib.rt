@@ -229,7 +229,7 @@ pub extern "C" fn probe_calls_of(header: u64, body: u64) -> u64 {
 }
 
 // A bundle's answer: on success the image holds the new session.
-fn settled(answer: bundle::Answer, image: &mut [u8]) -> u64
+fn settled(answer: bundle::Reply, image: &mut [u8]) -> u64
     requires { ⌜ length (now image) ≡ 216 ⌝ }
 {
     let number = answer.number;
