@@ -4,8 +4,8 @@ use mathlib.Core.List.{List, [], _∷_, _++_, map, append-assoc, append-nil}
 use Prim.Native.Nat.{ℕ, _+_, _/_, _^_, _<_}
 use native.Mathlib.Nat.{zero-lt-suc, add-assoc}
 use native.Mathlib.Omega.{arith}
-use lib.ListN.{length, take, drop, length-append, take-append-drop, drop-of-length-le}
-use lib.Seq.{sets, sets-eq, take-at, drop-drop, take-all, length-take-le, length-front}
+use lib.ListN.{length, take, drop, length-append, length-drop, take-append-drop, drop-of-length-le}
+use lib.Seq.{sets, sets-eq, take-at, drop-drop, take-all, length-take-le}
 use Rattle.keccak.proofs.States.{State}
 use Rattle.sponge.specs.Table.{table}
 use Rattle.sponge.specs.Bytes.{bytes, laneOf}
@@ -23,7 +23,7 @@ use Rattle.image.proofs.Bounds.{below-take}
 -- ---- fields, a width and a value each, one behind the other
 
 -- how many bytes they have
-abbrev total : List (ℕ × ℕ) → ℕ
+abbrev pub total : List (ℕ × ℕ) → ℕ
 total [] = 0
 total (f ∷ fs) = f .0 + total fs
 
@@ -53,6 +53,22 @@ stored-fields d at (f ∷ fs) =
     let B : List ℕ = bytesOf (f .0) (f .1) in
     stored-fields (sets d at B) (at + f .0) fs
     ∙ sets-append d at B (fieldBytes fs) (at + f .0) (ap (λ (n : ℕ). at + n) (sym (length-bytesOf (f .0) (f .1))))
+
+-- fields stored behind a front, up to the buffer's end
+pub stored : (x d r : List ℕ) (at : ℕ) (fs : List (ℕ × ℕ)) → length x ≡ at → length d ≡ total fs → r ≡ storedAt (x ++ d) at fs → r ≡ x ++ fieldBytes fs
+stored x d r at fs e l f =
+    let n : length (x ++ d) ≡ at + length (fieldBytes fs) = length-append x d ∙ rw (e, l, length-fields) in
+    f ∙ stored-fields (x ++ d) at fs
+    ∙ sets-eq (fieldBytes fs) (x ++ d) at (omega arith)
+    ∙ rw (drop-of-length-le (x ++ d) {i = at + length (fieldBytes fs)} (omega arith), append-nil, take-at x d at e)
+
+-- a state and then fields, which fill a buffer
+pub laid : (a d x r : List ℕ) (fs : List (ℕ × ℕ)) → length d ≡ 200 + total fs → x ≡ take (length (take 200 d)) (bytes 64 a)
+    → r ≡ storedAt (x ++ drop 200 d) 200 fs → r ≡ bytes 64 a ++ fieldBytes fs
+laid a d x r fs l e f =
+    let k : length (take 200 d) ≡ 200 = length-take-le 200 d (omega arith) in
+    let t : x ≡ bytes 64 a = e ∙ take-all (length (take 200 d)) (bytes 64 a) (omega (arith, length-bytes 64 a)) in
+    stored x (drop 200 d) r 200 fs (ap length t ∙ length-bytes 64 a) (omega (arith, length-drop 200 d)) f ∙ ap (λ (y : List ℕ). y ++ fieldBytes fs) t
 
 -- reading what was written, and writing what was read
 read-fields : (p : List ℕ) (at : ℕ) (fs : List (ℕ × ℕ)) → length p ≡ at → Within fs → readAt (p ++ fieldBytes fs) at fs ≡ fs
@@ -92,20 +108,6 @@ room = zero-lt-suc 7
 pub length-image : (s : Session) → length (imageOf s) ≡ imageLength
 unfolding imageOf
 length-image s = length-append (bytes 64 (s .lanes)) (fieldBytes (fieldsOf s)) ∙ rw (length-bytes, length-fields)
-
--- the image that a store after the other makes
-pub stored : (s : Session) (d x r : List ℕ) → length d ≡ imageLength → x ≡ take (length (take 200 d)) (bytes 64 (s .lanes))
-    → r ≡ storedAt (x ++ drop 200 d) 200 (fieldsOf s) → r ≡ imageOf s
-unfolding imageOf
-stored s d x r l e f =
-    let b : length (bytes 64 (s .lanes)) ≡ 200 = length-bytes 64 (s .lanes) in
-    let n : length (fieldBytes (fieldsOf s)) ≡ 16 = length-fields (fieldsOf s) in
-    let k : length (take 200 d) ≡ 200 = length-take-le 200 d (omega arith) in
-    let t : x ≡ bytes 64 (s .lanes) = e ∙ take-all (length (take 200 d)) (bytes 64 (s .lanes)) (omega arith) in
-    let m : length (x ++ drop 200 d) ≡ 216 = length-front d x 200 (ap length t ∙ b ∙ sym k) ∙ l in
-    f ∙ stored-fields (x ++ drop 200 d) 200 (fieldsOf s)
-    ∙ sets-eq (fieldBytes (fieldsOf s)) (x ++ drop 200 d) 200 (omega arith)
-    ∙ rw (drop-of-length-le (x ++ drop 200 d) {i = 200 + length (fieldBytes (fieldsOf s))} (omega arith), append-nil, take-at x (drop 200 d) 200 (ap length t ∙ b), t)
 
 -- the lanes are read from the first 200 bytes
 front-lanes : (b : List ℕ) → table 25 (laneOf 64 b) ≡ table 25 (laneOf 64 (take 200 b))

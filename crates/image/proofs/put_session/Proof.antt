@@ -2,12 +2,14 @@
 use mathlib.Core.Path.{sym}
 use native.Mathlib.Omega.{arith}
 use lib.Seq.{length-take-le}
-use Rattle.image.proofs.Image.{stored}
+use Rattle.image.specs.Image.{fieldsOf, imageOf}
+use Rattle.image.proofs.Image.{laid}
 use borrow.Author.Needs.{needs}
 use Rattle.image.proofs.put_session.Statement.{statement}
 use Rattle.image.proofs.put_session.Tie as tie
 
 returns : tie.Need-returns
+unfolding imageOf
 returns c =
     let n = c .before .before in
     let p = n .before .before .before .before in
@@ -15,7 +17,7 @@ returns c =
     let r = t .before .before .before .before in
     let l = r .before .before .before .before in
     let e = l .before .before .before .before in
-    stored (e .args .s) (e .args .image .now) _ _ (e .pre) (l .put-bytes .ensures)
+    laid (e .args .s .lanes) (e .args .image .now) _ _ (fieldsOf (e .args .s)) (e .pre) (l .put-bytes .ensures)
     (rw (n .put-u64 .ensures, p .put-u32 .ensures, t .put-u162 .ensures, r .put-u16 .ensures))
 
 pub put-session-spec : {M : Type 1} → statement M
