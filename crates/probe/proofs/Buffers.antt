@@ -1,0 +1,54 @@
+-- A call over a buffer by its outcome: a buffer of another length, or what the call gives.
+use Prim.Native.Nat.{ℕ}
+use mathlib.Core.Path.{_≡_, ap, _∙_}
+use mathlib.Core.List.{List}
+use lib.ListN.{length}
+use Rattle.refusal.proofs.Rows.{taken, passed}
+use Rattle.refusal.proofs.Tests.{other, alike}
+use Rattle.spongewrap.specs.Desk.{desk}
+use Rattle.spongewrap.specs.Sessions as sessions
+use Rattle.spongewrap.specs.Sessions.{wraps, unwraps}
+use Rattle.spongewrap.specs.declared.Session.{Session}
+use Rattle.spongewrap.specs.declared.Answer.{Answer}
+use Rattle.bundle.specs.Format.{version1}
+use Rattle.bundle.specs.Answers as bundles
+use Rattle.bundle.specs.Opening.{opens}
+use Rattle.bundle.specs.Writing.{starts, adds}
+use Rattle.bundle.specs.declared.Answer as bundle
+use Rattle.image.specs.Image.{imageLength, imageOf, sessionOf}
+use Rattle.image.specs.Calls.{Seen, seen}
+use Rattle.probe.specs.Buffers.{sized}
+use Rattle.probe.specs.Sessions.{ofSession, runningWraps, runningUnwraps}
+use Rattle.probe.specs.Bundles.{packedAnswer, ofBundle, opensEntry, startsBundle, addsEntry}
+
+module _ (n : ℕ) (b o : List ℕ) where
+  pub other-length : (v : Seen) → (length b ≡ n → ⊥) → seen 6 b o ≡ sized n b o v
+  other-length v h = taken (seen 6 b o) v (other (length b) n h)
+
+  pub whole : (u v : Seen) → length b ≡ n → u ≡ v → u ≡ sized n b o v
+  whole u v h e = passed (seen 6 b o) (alike (length b) n h) e
+
+-- ---- over an image
+
+module _ (i i′ o o′ : List ℕ) (s : Session) (h : length i ≡ imageLength) (z : s ≡ sessionOf i) where
+  -- w is what came of a call on the session that it holds, and u what is seen of that
+  over-image : {W : Type 0} (shown : W → Seen) (call : Session → W) (w : W) (u : Seen) → w ≡ call s → u ≡ shown w
+      → u ≡ sized imageLength i o (shown (call (sessionOf i)))
+  over-image shown call w u e f = whole imageLength i o u (shown (call (sessionOf i))) h (f ∙ ap shown (e ∙ ap call z))
+
+  module _ (a : Answer) (f : i′ ≡ imageOf (a .session)) where
+    pub wrapped-is : (k b : List ℕ) → sessions.seen a o′ ≡ wraps desk s k b o → seen (a .number) i′ o′ ≡ runningWraps i k b o
+    wrapped-is k b e = over-image ofSession (λ r. wraps desk r k b o) (sessions.seen a o′) (seen (a .number) i′ o′) e (rw f)
+
+    pub unwrapped-is : (k c t : List ℕ) → sessions.seen a o′ ≡ unwraps desk s k c t o → seen (a .number) i′ o′ ≡ runningUnwraps i k c t o
+    unwrapped-is k c t e = over-image ofSession (λ r. unwraps desk r k c t o) (sessions.seen a o′) (seen (a .number) i′ o′) e (rw f)
+
+  module _ (a : bundle.Answer) (n : ℕ) (f : i′ ≡ imageOf (a .session)) (g : n ≡ packedAnswer a) where
+    pub opened-is : (b : List ℕ) (place : ℕ) → bundles.seen a o′ ≡ opens version1 s b place o → seen n i′ o′ ≡ opensEntry i b place o
+    opened-is b place e = over-image ofBundle (λ r. opens version1 r b place o) (bundles.seen a o′) (seen n i′ o′) e (rw (f, g))
+
+    pub started-is : (label : List ℕ) → bundles.seen a o′ ≡ starts version1 s label o → seen n i′ o′ ≡ startsBundle i label o
+    started-is label e = over-image ofBundle (λ r. starts version1 r label o) (bundles.seen a o′) (seen n i′ o′) e (rw (f, g))
+
+    pub added-is : (k b : List ℕ) → bundles.seen a o′ ≡ adds version1 s k b o → seen n i′ o′ ≡ addsEntry i k b o
+    added-is k b e = over-image ofBundle (λ r. adds version1 r k b o) (bundles.seen a o′) (seen n i′ o′) e (rw (f, g))

@@ -1,0 +1,25 @@
+-- An image of another length is refused; else the session that the call left is laid over it.
+use Rattle.probe.proofs.Buffers.{other-length, opened-is}
+use borrow.Author.Needs.{needs}
+use Rattle.probe.proofs.bundles.probe_open_entry.Statement.{statement}
+use Rattle.probe.proofs.bundles.probe_open_entry.Tie as tie
+
+returns : tie.Need-returns
+returns c = search other-length
+
+returns-2 : tie.Need-returns-2
+returns-2 c = search opened-is
+
+pub probe-open-entry-spec : {M : Type 1} → statement M
+probe-open-entry-spec =
+    tie.close
+    (tie.spec
+    (λ c. search needs)
+    returns
+    (λ c κs. search needs)
+    (λ c κs. search needs)
+    (λ c κs. search needs)
+    (λ c κs. search needs)
+    (λ c. search needs)
+    (λ c. search needs)
+    returns-2)

@@ -1,0 +1,4 @@
+pub mod Buffers
+pub mod States
+pub mod Sessions
+pub mod Bundles
