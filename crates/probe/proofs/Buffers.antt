@@ -25,8 +25,8 @@ module _ (n : ℕ) (b o : List ℕ) where
   pub other-length : (v : Seen) → (length b ≡ n → ⊥) → seen 6 b o ≡ sized n b o v
   other-length v h = taken (seen 6 b o) v (other (length b) n h)
 
-  pub whole : (u v : Seen) → length b ≡ n → u ≡ v → u ≡ sized n b o v
-  whole u v h e = passed (seen 6 b o) (alike (length b) n h) e
+  pub right-length : (u v : Seen) → length b ≡ n → u ≡ v → u ≡ sized n b o v
+  right-length u v h e = passed (seen 6 b o) (alike (length b) n h) e
 
 -- ---- over an image
 
@@ -34,7 +34,7 @@ module _ (i i′ o o′ : List ℕ) (s : Session) (h : length i ≡ imageLength)
   -- w is what came of a call on the session that it holds, and u what is seen of that
   over-image : {W : Type 0} (shown : W → Seen) (call : Session → W) (w : W) (u : Seen) → w ≡ call s → u ≡ shown w
       → u ≡ sized imageLength i o (shown (call (sessionOf i)))
-  over-image shown call w u e f = whole imageLength i o u (shown (call (sessionOf i))) h (f ∙ ap shown (e ∙ ap call z))
+  over-image shown call w u e f = right-length imageLength i o u (shown (call (sessionOf i))) h (f ∙ ap shown (e ∙ ap call z))
 
   module _ (a : Answer) (f : i′ ≡ imageOf (a .session)) where
     pub wrapped-is : (k b : List ℕ) → sessions.seen a o′ ≡ wraps desk s k b o → seen (a .number) i′ o′ ≡ runningWraps i k b o
@@ -44,8 +44,8 @@ module _ (i i′ o o′ : List ℕ) (s : Session) (h : length i ≡ imageLength)
     unwrapped-is k c t e = over-image ofSession (λ r. unwraps desk r k c t o) (sessions.seen a o′) (seen (a .number) i′ o′) e (rw f)
 
   module _ (a : bundle.Answer) (n : ℕ) (f : i′ ≡ imageOf (a .session)) (g : n ≡ packedAnswer a) where
-    pub opened-is : (b : List ℕ) (place : ℕ) → bundles.seen a o′ ≡ opens version1 s b place o → seen n i′ o′ ≡ opensEntry i b place o
-    opened-is b place e = over-image ofBundle (λ r. opens version1 r b place o) (bundles.seen a o′) (seen n i′ o′) e (rw (f, g))
+    pub entry-opened-is : (b : List ℕ) (place : ℕ) → bundles.seen a o′ ≡ opens version1 s b place o → seen n i′ o′ ≡ opensEntry i b place o
+    entry-opened-is b place e = over-image ofBundle (λ r. opens version1 r b place o) (bundles.seen a o′) (seen n i′ o′) e (rw (f, g))
 
     pub started-is : (label : List ℕ) → bundles.seen a o′ ≡ starts version1 s label o → seen n i′ o′ ≡ startsBundle i label o
     started-is label e = over-image ofBundle (λ r. starts version1 r label o) (bundles.seen a o′) (seen n i′ o′) e (rw (f, g))

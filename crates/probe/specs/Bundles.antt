@@ -25,9 +25,6 @@ packedTold t = packed (t .number) (getD (t .values) 0 (t .place))
 
 -- ---- the entry at a place
 
-abbrev pub entryLength : ℕ
-entryLength = 24
-
 -- its header's length, its body's and the next place, eight bytes each; or what its cause is, and the buffer e as it was
 abbrev pub ofEntry : List ℕ → Entry → Seen
 ofEntry e (Whole header body next) = seen 0 (fieldBytes ((8, header) ∷ (8, body) ∷ (8, next) ∷ [])) []
@@ -35,8 +32,8 @@ ofEntry e Short = seen 1 e []
 ofEntry e Large = seen 2 e []
 ofEntry e Past = seen 3 e []
 
-abbrev pub entries : List ℕ → ℕ → List ℕ → Seen
-entries b place e = sized entryLength e [] (ofEntry e (entryAt version1 b place))
+abbrev pub readsEntry : List ℕ → ℕ → List ℕ → Seen
+readsEntry b place e = sized 24 e [] (ofEntry e (entryAt version1 b place))
 
 -- ---- calls on the session that an image holds
 

@@ -5,7 +5,7 @@ ghost use Rattle.spongewrap.specs.Sessions.{cost};
 ghost use Rattle.bundle.specs.Format.{version1, bundleRate};
 ghost use Rattle.bundle.specs.Survey.{surveys};
 ghost use Rattle.image.specs.Calls.{seen};
-ghost use Rattle.probe.specs.Bundles.{packed, packedTold, packedAnswer, entries, opensEntry, startsBundle, addsEntry};
+ghost use Rattle.probe.specs.Bundles.{packed, packedTold, packedAnswer, readsEntry, opensEntry, startsBundle, addsEntry};
 use bundle::Answer;
 use bundle::Entry;
 use bundle::Surveyed;
@@ -46,7 +46,7 @@ pub extern "C" fn probe_survey(bundle: &[u8]) -> u64
 // Answers 0, or where there is none 1, 2 or 3 for its three causes in the order of the survey.
 #[no_mangle]
 pub extern "C" fn probe_entry_at(bundle: &[u8], place: u64, entry: &mut [u8]) -> u8
-    ensures { λ r. ⌜ seen r (now (entry .exit)) [] ≡ entries (now (bundle .entry)) place (now (entry .entry)) ⌝ }
+    ensures { λ r. ⌜ seen r (now (entry .exit)) [] ≡ readsEntry (now (bundle .entry)) place (now (entry .entry)) ⌝ }
 {
     if entry.len() != ENTRY {
         return refusal::NO_ROOM;

@@ -1,5 +1,5 @@
 -- The first 200 bytes are mixed into zero lanes.
-use mathlib.Core.Path.{sym, _∙_}
+use mathlib.Core.Path.{sym}
 use native.Mathlib.Nat.{zero-lt-suc}
 use native.Mathlib.Omega.{arith}
 use lib.Seq.{length-take-le}

@@ -9,18 +9,18 @@ use borrow.Author.Needs.{needs}
 use Rattle.probe.proofs.bundles.pack_answer.Statement.{statement}
 use Rattle.probe.proofs.bundles.pack_answer.Tie as tie
 
-refused : (a : Answer) (n : ℕ) → (a .number ≡ 0 → ⊥) → n ≡ packed (a .number) (a .place) → n ≡ packedAnswer a
-refused a n d e = rw (kept (a .number) (a .place) (a .next) d) e
+place-packed : (a : Answer) (n : ℕ) → (a .number ≡ 0 → ⊥) → n ≡ packed (a .number) (a .place) → n ≡ packedAnswer a
+place-packed a n d e = rw (kept (a .number) (a .place) (a .next) d) e
 
-accepted : (a : Answer) (n : ℕ) → a .number ≡ 0 → n ≡ packed 0 (a .next) → n ≡ packedAnswer a
+next-packed : (a : Answer) (n : ℕ) → a .number ≡ 0 → n ≡ packed 0 (a .next) → n ≡ packedAnswer a
 unfolding by
-accepted a n z e = rw z e
+next-packed a n z e = rw z e
 
 returns : tie.Need-returns
-returns c = search refused
+returns c = search place-packed
 
 returns-2 : tie.Need-returns-2
-returns-2 c = search accepted
+returns-2 c = search next-packed
 
 pub pack-answer-spec : {M : Type 1} → statement M
 pack-answer-spec = tie.close (tie.spec (λ c κs. search needs) returns (λ c κs. search needs) returns-2)

@@ -8,17 +8,17 @@ use Rattle.bundle.specs.declared.Entry.{Entry}
 use Rattle.bundle.specs.declared.Entry.the-variants.{Whole, Short, Large, Past}
 use Rattle.image.specs.Calls.{Seen, seen}
 use Rattle.image.proofs.Image.{storedAt, stored}
-use Rattle.probe.specs.Bundles.{entryLength, ofEntry, entries}
-use Rattle.probe.proofs.Buffers.{other-length, whole}
+use Rattle.probe.specs.Bundles.{ofEntry, readsEntry}
+use Rattle.probe.proofs.Buffers.{other-length, right-length}
 use borrow.Author.Needs.{needs}
 use Rattle.probe.proofs.bundles.probe_entry_at.Statement.{statement}
 use Rattle.probe.proofs.bundles.probe_entry_at.Tie as tie
 
-module _ (b e : List ℕ) (place : ℕ) (x : Entry) (l : length e ≡ entryLength) (f : x ≡ entryAt version1 b place) where
-  entry-is : (t : Entry) (u : Seen) → x ≡ t → u ≡ ofEntry e t → u ≡ entries b place e
-  entry-is t u g k = whole entryLength e [] u (ofEntry e (entryAt version1 b place)) l (k ∙ ap (ofEntry e) (sym g ∙ f))
+module _ (b e : List ℕ) (place : ℕ) (x : Entry) (l : length e ≡ 24) (f : x ≡ entryAt version1 b place) where
+  entry-is : (t : Entry) (u : Seen) → x ≡ t → u ≡ ofEntry e t → u ≡ readsEntry b place e
+  entry-is t u g k = right-length 24 e [] u (ofEntry e (entryAt version1 b place)) l (k ∙ ap (ofEntry e) (sym g ∙ f))
 
-  whole-is : (h m n : ℕ) (r : List ℕ) → x ≡ Whole h m n → r ≡ storedAt e 0 ((8, h) ∷ (8, m) ∷ (8, n) ∷ []) → seen 0 r [] ≡ entries b place e
+  whole-is : (h m n : ℕ) (r : List ℕ) → x ≡ Whole h m n → r ≡ storedAt e 0 ((8, h) ∷ (8, m) ∷ (8, n) ∷ []) → seen 0 r [] ≡ readsEntry b place e
   whole-is h m n r g k = entry-is (Whole h m n) (seen 0 r []) g (rw (stored [] e r 0 ((8, h) ∷ (8, m) ∷ (8, n) ∷ []) refl l k))
 
 returns : tie.Need-returns
@@ -46,18 +46,4 @@ returns-5 c = entry-is _ _ _ (c .before .before .entry-at .result) (search needs
 pub probe-entry-at-spec : {M : Type 1} → statement M
 probe-entry-at-spec =
     tie.close
-    (tie.spec
-    returns
-    (λ c κs. search needs)
-    (λ c. search needs)
-    (λ c κs. search needs)
-    (λ c κs. search needs)
-    (λ c κs. search needs)
-    (λ c. search needs)
-    (λ c. search needs)
-    (λ c. search needs)
-    (λ c. search needs)
-    returns-2
-    returns-3
-    returns-4
-    returns-5)
+    (tie.spec returns (λ c κs. search needs) (λ c. search needs) (λ c κs. search needs) (λ c κs. search needs) (λ c κs. search needs) (λ c. search needs) (λ c. search needs) (λ c. search needs) (λ c. search needs) returns-2 returns-3 returns-4 returns-5)

@@ -1,5 +1,5 @@
 -- An image of another length is refused; else the session that the call left is laid over it.
-use Rattle.probe.proofs.Buffers.{other-length, opened-is}
+use Rattle.probe.proofs.Buffers.{other-length, entry-opened-is}
 use borrow.Author.Needs.{needs}
 use Rattle.probe.proofs.bundles.probe_open_entry.Statement.{statement}
 use Rattle.probe.proofs.bundles.probe_open_entry.Tie as tie
@@ -8,18 +8,9 @@ returns : tie.Need-returns
 returns c = search other-length
 
 returns-2 : tie.Need-returns-2
-returns-2 c = search opened-is
+returns-2 c = search entry-opened-is
 
 pub probe-open-entry-spec : {M : Type 1} → statement M
 probe-open-entry-spec =
     tie.close
-    (tie.spec
-    (λ c. search needs)
-    returns
-    (λ c κs. search needs)
-    (λ c κs. search needs)
-    (λ c κs. search needs)
-    (λ c κs. search needs)
-    (λ c. search needs)
-    (λ c. search needs)
-    returns-2)
+    (tie.spec (λ c. search needs) returns (λ c κs. search needs) (λ c κs. search needs) (λ c κs. search needs) (λ c κs. search needs) (λ c. search needs) (λ c. search needs) returns-2)

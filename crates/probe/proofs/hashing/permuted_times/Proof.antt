@@ -13,16 +13,16 @@ use Rattle.probe.proofs.hashing.permuted_times.Tie as tie
 abbrev Turned : List ℕ → ℕ → ℕ → List ℕ → Type 0
 Turned a n left b = (left ≤ n) × (b ≡ iterate f1600 a (n - left))
 
-turn : (a b c : List ℕ) (n left : ℕ) → Turned a n left b → 0 < left → c ≡ f1600 b → Turned a n (left - 1) c
+turned-none : (a : List ℕ) (n : ℕ) → Turned a n n a
 unfolding iterate
-turn a b c n left t l e = let k : n - (left - 1) ≡ suc (n - left) = omega arith in (omega arith, rw (k, e, t .1))
+turned-none a n = let k : n - n ≡ 0 = omega arith in (omega arith, rw k)
 
-none : (a : List ℕ) (n : ℕ) → Turned a n n a
+turned-more : (a b c : List ℕ) (n left : ℕ) → Turned a n left b → 0 < left → c ≡ f1600 b → Turned a n (left - 1) c
 unfolding iterate
-none a n = let k : n - n ≡ 0 = omega arith in (omega arith, rw k)
+turned-more a b c n left t l e = let k : n - (left - 1) ≡ suc (n - left) = omega arith in (omega arith, rw (k, e, t .1))
 
-done : (a b : List ℕ) (n left : ℕ) → Turned a n left b → left ≤ 0 → b ≡ iterate f1600 a n
-done a b n left t l = let k : n - left ≡ n = omega arith in t .1 ∙ rw k
+turned-last : (a b : List ℕ) (n left : ℕ) → Turned a n left b → left ≤ 0 → b ≡ iterate f1600 a n
+turned-last a b n left t l = let k : n - left ≡ n = omega arith in t .1 ∙ rw k
 
 abbrev Inv-loop : tie.InvT-loop
 Inv-loop times b₀ left₀ b left = Turned b₀ times left b
@@ -31,15 +31,13 @@ abbrev μ-loop : tie.MeasureT-loop
 μ-loop times b₀ left₀ b left = left
 
 loop-holds : tie.Need-loop-holds Inv-loop μ-loop
-loop-holds c = search none
+loop-holds c = search turned-none
 
 loop-again : tie.Need-loop-again Inv-loop μ-loop
-loop-again c = search turn
+loop-again c = search turned-more
 
 returns : tie.Need-returns Inv-loop μ-loop
-returns c = done _ _ _ _ (c .before .loop .inv) (search needs)
+returns c = turned-last _ _ _ _ (c .before .loop .inv) (search needs)
 
 pub permuted-times-spec : {M : Type 1} → statement M
-permuted-times-spec =
-    tie.close
-    (tie.spec Inv-loop μ-loop loop-holds (λ c κs. search needs) (λ c. search needs) (λ c. search needs) loop-again returns)
+permuted-times-spec = tie.close (tie.spec Inv-loop μ-loop loop-holds (λ c κs. search needs) (λ c. search needs) (λ c. search needs) loop-again returns)

@@ -12,14 +12,14 @@ use Rattle.sponge.specs.Sponge.{iterate}
 use Rattle.sponge.proofs.Squeeze.{length-bytes}
 use Rattle.image.specs.Calls.{seen}
 use Rattle.probe.specs.States.{lanesOf, permutes}
-use Rattle.probe.proofs.Buffers.{other-length, whole}
+use Rattle.probe.proofs.Buffers.{other-length, right-length}
 use borrow.Author.Needs.{needs}
 use Rattle.probe.proofs.hashing.probe_permute_times.Statement.{statement}
 use Rattle.probe.proofs.hashing.probe_permute_times.Tie as tie
 
 permuted-is : (b b′ l p : List ℕ) (times : ℕ) → length b ≡ 200 → l ≡ lanesOf b → p ≡ iterate f1600 l times → b′ ≡ take (length b) (bytes 64 p) → seen 0 b′ [] ≡ permutes b times
 permuted-is b b′ l p times h e f g =
-    whole 200 b [] (seen 0 b′ []) _ h (rw (g, take-all (length b) (bytes 64 p) (omega (arith, length-bytes 64 p)), f, e))
+    right-length 200 b [] (seen 0 b′ []) _ h (rw (g, take-all (length b) (bytes 64 p) (omega (arith, length-bytes 64 p)), f, e))
 
 returns : tie.Need-returns
 returns c = search other-length

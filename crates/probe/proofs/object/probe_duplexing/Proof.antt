@@ -10,14 +10,14 @@ use Rattle.duplex.specs.declared.Duplex.{Duplex}
 use Rattle.duplex.specs.declared.Answer.{Answer}
 use Rattle.image.specs.Calls.{seen}
 use Rattle.probe.specs.States.{objectLength, objectOf, duplexOf, duplexesObject}
-use Rattle.probe.proofs.Buffers.{other-length, whole}
+use Rattle.probe.proofs.Buffers.{other-length, right-length}
 use borrow.Author.Needs.{needs}
 use Rattle.probe.proofs.object.probe_duplexing.Statement.{statement}
 use Rattle.probe.proofs.object.probe_duplexing.Tie as tie
 
 duplexed-is : (done : Bool) (b b′ p o o′ : List ℕ) (frame : Bool) (d : Duplex) (a : Answer) → length b ≡ objectLength → d ≡ duplexOf b → object.seen a o′ ≡ duplexes d p frame o
     → b′ ≡ objectOf (a .duplex) → a .done ≡ done → seen (bit (not done)) b′ o′ ≡ duplexesObject b p frame o
-duplexed-is done b b′ p o o′ frame d a h z e f g = whole objectLength b o (seen (bit (not done)) b′ o′) _ h (rw (f, ← g, ← z, ← e))
+duplexed-is done b b′ p o o′ frame d a h z e f g = right-length objectLength b o (seen (bit (not done)) b′ o′) _ h (rw (f, ← g, ← z, ← e))
 
 returns : tie.Need-returns
 returns c = search other-length
@@ -31,14 +31,4 @@ returns-3 c = search (duplexed-is false)
 pub probe-duplexing-spec : {M : Type 1} → statement M
 probe-duplexing-spec =
     tie.close
-    (tie.spec
-    returns
-    (λ c κs. search needs)
-    (λ c κs. search needs)
-    (λ c κs. search needs)
-    (λ c. search needs)
-    (λ c. search needs)
-    returns-2
-    (λ c. search needs)
-    (λ c. search needs)
-    returns-3)
+    (tie.spec returns (λ c κs. search needs) (λ c κs. search needs) (λ c κs. search needs) (λ c. search needs) (λ c. search needs) returns-2 (λ c. search needs) (λ c. search needs) returns-3)

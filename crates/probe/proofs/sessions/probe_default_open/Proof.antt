@@ -9,20 +9,20 @@ use Rattle.spongewrap.specs.declared.Answer.{Answer}
 use Rattle.image.specs.Image.{imageLength, imageOf}
 use Rattle.image.specs.Calls.{seen}
 use Rattle.probe.specs.Sessions.{defaultOpens}
-use Rattle.probe.proofs.Buffers.{other-length, whole}
+use Rattle.probe.proofs.Buffers.{other-length, right-length}
 use borrow.Author.Needs.{needs}
 use Rattle.probe.proofs.sessions.probe_default_open.Statement.{statement}
 use Rattle.probe.proofs.sessions.probe_default_open.Tie as tie
 
-opened-is : (key i i′ : List ℕ) (a : Answer) → length i ≡ imageLength → a ≡ opens desk key defaultRate defaultTag → i′ ≡ imageOf (a .session)
+default-opened-is : (key i i′ : List ℕ) (a : Answer) → length i ≡ imageLength → a ≡ opens desk key defaultRate defaultTag → i′ ≡ imageOf (a .session)
     → seen (a .number) i′ [] ≡ defaultOpens key i
-opened-is key i i′ a h e f = whole imageLength i [] (seen (a .number) i′ []) _ h (rw (f, e))
+default-opened-is key i i′ a h e f = right-length imageLength i [] (seen (a .number) i′ []) _ h (rw (f, e))
 
 returns : tie.Need-returns
 returns c = search other-length
 
 returns-2 : tie.Need-returns-2
-returns-2 c = search opened-is
+returns-2 c = search default-opened-is
 
 pub probe-default-open-spec : {M : Type 1} → statement M
 probe-default-open-spec = tie.close (tie.spec returns (λ c κs. search needs) (λ c κs. search needs) (λ c. search needs) returns-2)

@@ -11,13 +11,4 @@ returns-2 : tie.Need-returns-2
 returns-2 c = search unwrapped-is
 
 pub probe-running-unwrap-spec : {M : Type 1} → statement M
-probe-running-unwrap-spec =
-    tie.close
-    (tie.spec
-    returns
-    (λ c κs. search needs)
-    (λ c κs. search needs)
-    (λ c κs. search needs)
-    (λ c. search needs)
-    (λ c. search needs)
-    returns-2)
+probe-running-unwrap-spec = tie.close (tie.spec returns (λ c κs. search needs) (λ c κs. search needs) (λ c κs. search needs) (λ c. search needs) (λ c. search needs) returns-2)

@@ -11,13 +11,4 @@ returns-2 : tie.Need-returns-2
 returns-2 c = search wrapped-is
 
 pub probe-running-wrap-spec : {M : Type 1} → statement M
-probe-running-wrap-spec =
-    tie.close
-    (tie.spec
-    returns
-    (λ c κs. search needs)
-    (λ c κs. search needs)
-    (λ c κs. search needs)
-    (λ c. search needs)
-    (λ c. search needs)
-    returns-2)
+probe-running-wrap-spec = tie.close (tie.spec returns (λ c κs. search needs) (λ c κs. search needs) (λ c κs. search needs) (λ c. search needs) (λ c. search needs) returns-2)
