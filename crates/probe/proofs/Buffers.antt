@@ -12,14 +12,14 @@ use Rattle.spongewrap.specs.declared.Session.{Session}
 use Rattle.spongewrap.specs.declared.Answer.{Answer}
 use Rattle.bundle.specs.Format.{version1}
 use Rattle.bundle.specs.Answers as bundles
-use Rattle.bundle.specs.Opening.{opens}
+use Rattle.bundle.specs.Opening.{opensEntry}
 use Rattle.bundle.specs.Writing.{starts, adds}
-use Rattle.bundle.specs.declared.Answer as bundle
+use Rattle.bundle.specs.declared.Reply.{Reply}
 use Rattle.image.specs.Image.{imageLength, imageOf, sessionOf}
 use Rattle.image.specs.Calls.{Seen, seen}
 use Rattle.probe.specs.Buffers.{sized}
 use Rattle.probe.specs.Sessions.{ofSession, runningWraps, runningUnwraps}
-use Rattle.probe.specs.Bundles.{packedAnswer, ofBundle, opensEntry, startsBundle, addsEntry}
+use Rattle.probe.specs.Bundles.{packedAnswer, ofBundle, opensOver, startsBundle, addsEntry}
 
 module _ (n : ℕ) (b o : List ℕ) where
   pub other-length : (v : Seen) → (length b ≡ n → ⊥) → seen 6 b o ≡ sized n b o v
@@ -43,9 +43,9 @@ module _ (i i′ o o′ : List ℕ) (s : Session) (h : length i ≡ imageLength)
     pub unwrapped-is : (k c t : List ℕ) → sessions.seen a o′ ≡ unwraps desk s k c t o → seen (a .number) i′ o′ ≡ runningUnwraps i k c t o
     unwrapped-is k c t e = over-image ofSession (λ r. unwraps desk r k c t o) (sessions.seen a o′) (seen (a .number) i′ o′) e (rw f)
 
-  module _ (a : bundle.Answer) (n : ℕ) (f : i′ ≡ imageOf (a .session)) (g : n ≡ packedAnswer a) where
-    pub entry-opened-is : (b : List ℕ) (place : ℕ) → bundles.seen a o′ ≡ opens version1 s b place o → seen n i′ o′ ≡ opensEntry i b place o
-    entry-opened-is b place e = over-image ofBundle (λ r. opens version1 r b place o) (bundles.seen a o′) (seen n i′ o′) e (rw (f, g))
+  module _ (a : Reply) (n : ℕ) (f : i′ ≡ imageOf (a .session)) (g : n ≡ packedAnswer a) where
+    pub entry-opened-is : (b : List ℕ) (place : ℕ) → bundles.seen a o′ ≡ opensEntry version1 s b place o → seen n i′ o′ ≡ opensOver i b place o
+    entry-opened-is b place e = over-image ofBundle (λ r. opensEntry version1 r b place o) (bundles.seen a o′) (seen n i′ o′) e (rw (f, g))
 
     pub started-is : (label : List ℕ) → bundles.seen a o′ ≡ starts version1 s label o → seen n i′ o′ ≡ startsBundle i label o
     started-is label e = over-image ofBundle (λ r. starts version1 r label o) (bundles.seen a o′) (seen n i′ o′) e (rw (f, g))

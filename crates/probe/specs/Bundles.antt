@@ -6,9 +6,9 @@ use Rattle.refusal.specs.Rows.{by}
 use Rattle.bundle.specs.Format.{version1, entryAt}
 use Rattle.bundle.specs.Answers as bundles
 use Rattle.bundle.specs.Answers.{Told}
-use Rattle.bundle.specs.Opening.{opens}
+use Rattle.bundle.specs.Opening.{opensEntry}
 use Rattle.bundle.specs.Writing.{starts, adds}
-use Rattle.bundle.specs.declared.Answer.{Answer}
+use Rattle.bundle.specs.declared.Reply.{Reply}
 use Rattle.bundle.specs.declared.Entry.{Entry}
 use Rattle.bundle.specs.declared.Entry.the-variants.{Whole, Short, Large, Past}
 use Rattle.image.specs.Image.{imageLength, fieldBytes, imageOf, sessionOf}
@@ -38,14 +38,14 @@ readsEntry b place e = sized 24 e [] (ofEntry e (entryAt version1 b place))
 -- ---- calls on the session that an image holds
 
 -- a refusal's place, or else the next entry's
-abbrev pub packedAnswer : Answer → ℕ
+abbrev pub packedAnswer : Reply → ℕ
 packedAnswer a = packed (a .number) (by (a .number) (a .place) (a .next))
 
 abbrev pub ofBundle : bundles.Seen → Seen
 ofBundle w = seen (packedAnswer (w .answer)) (imageOf (w .answer .session)) (w .buffer)
 
-abbrev pub opensEntry : List ℕ → List ℕ → ℕ → List ℕ → Seen
-opensEntry i b place o = sized imageLength i o (ofBundle (opens version1 (sessionOf i) b place o))
+abbrev pub opensOver : List ℕ → List ℕ → ℕ → List ℕ → Seen
+opensOver i b place o = sized imageLength i o (ofBundle (opensEntry version1 (sessionOf i) b place o))
 
 abbrev pub startsBundle : List ℕ → List ℕ → List ℕ → Seen
 startsBundle i label d = sized imageLength i d (ofBundle (starts version1 (sessionOf i) label d))

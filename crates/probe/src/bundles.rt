@@ -5,9 +5,9 @@ ghost use Rattle.spongewrap.specs.Sessions.{cost};
 ghost use Rattle.bundle.specs.Format.{version1, bundleRate};
 ghost use Rattle.bundle.specs.Survey.{surveys};
 ghost use Rattle.image.specs.Calls.{seen};
-ghost use Rattle.probe.specs.Bundles.{packed, packedTold, packedAnswer, readsEntry, opensEntry, startsBundle, addsEntry};
-use bundle::Answer;
+ghost use Rattle.probe.specs.Bundles.{packed, packedTold, packedAnswer, readsEntry, opensOver, startsBundle, addsEntry};
 use bundle::Entry;
+use bundle::Reply;
 use bundle::Surveyed;
 
 // How many bytes an entry's three numbers have.
@@ -21,7 +21,7 @@ fn pack(number: u8, place: usize) -> u64
 }
 
 // An answer with its place, or where it is accepted with the next entry's.
-fn pack_answer(answer: Answer) -> u64
+fn pack_answer(answer: Reply) -> u64
     ensures { λ r. ⌜ r ≡ packedAnswer answer ⌝ }
 {
     let number = answer.number;
@@ -78,7 +78,7 @@ pub extern "C" fn probe_open_entry(
     place: u64,
     body: &mut [u8],
 ) -> u64
-    ensures { λ r. ⌜ seen r (now (image .exit)) (now (body .exit)) ≡ opensEntry (now (image .entry)) (now (bundle .entry)) place (now (body .entry)) ⌝ }
+    ensures { λ r. ⌜ seen r (now (image .exit)) (now (body .exit)) ≡ opensOver (now (image .entry)) (now (bundle .entry)) place (now (body .entry)) ⌝ }
 {
     if image.len() != image::LENGTH {
         return refusal::NO_ROOM as u64;

@@ -3,16 +3,16 @@ use Prim.Native.Nat.{ℕ}
 use mathlib.Core.Path.{_≡_}
 use Rattle.refusal.specs.Rows.{by}
 use Rattle.refusal.proofs.Rows.{kept}
-use Rattle.bundle.specs.declared.Answer.{Answer}
+use Rattle.bundle.specs.declared.Reply.{Reply}
 use Rattle.probe.specs.Bundles.{packed, packedAnswer}
 use borrow.Author.Needs.{needs}
 use Rattle.probe.proofs.bundles.pack_answer.Statement.{statement}
 use Rattle.probe.proofs.bundles.pack_answer.Tie as tie
 
-place-packed : (a : Answer) (n : ℕ) → (a .number ≡ 0 → ⊥) → n ≡ packed (a .number) (a .place) → n ≡ packedAnswer a
+place-packed : (a : Reply) (n : ℕ) → (a .number ≡ 0 → ⊥) → n ≡ packed (a .number) (a .place) → n ≡ packedAnswer a
 place-packed a n d e = rw (kept (a .number) (a .place) (a .next) d) e
 
-next-packed : (a : Answer) (n : ℕ) → a .number ≡ 0 → n ≡ packed 0 (a .next) → n ≡ packedAnswer a
+next-packed : (a : Reply) (n : ℕ) → a .number ≡ 0 → n ≡ packed 0 (a .next) → n ≡ packedAnswer a
 unfolding by
 next-packed a n z e = rw z e
 

@@ -7,7 +7,7 @@ use lib.ListN.{length}
 use Rattle.duplex.specs.Object as object
 use Rattle.duplex.specs.Object.{bit, duplexes}
 use Rattle.duplex.specs.declared.Duplex.{Duplex}
-use Rattle.duplex.specs.declared.Answer.{Answer}
+use Rattle.duplex.specs.declared.Outcome.{Outcome}
 use Rattle.image.specs.Calls.{seen}
 use Rattle.probe.specs.States.{objectLength, objectOf, duplexOf, duplexesObject}
 use Rattle.probe.proofs.Buffers.{other-length, right-length}
@@ -15,7 +15,7 @@ use borrow.Author.Needs.{needs}
 use Rattle.probe.proofs.object.probe_duplexing.Statement.{statement}
 use Rattle.probe.proofs.object.probe_duplexing.Tie as tie
 
-duplexed-is : (done : Bool) (b b′ p o o′ : List ℕ) (frame : Bool) (d : Duplex) (a : Answer) → length b ≡ objectLength → d ≡ duplexOf b → object.seen a o′ ≡ duplexes d p frame o
+duplexed-is : (done : Bool) (b b′ p o o′ : List ℕ) (frame : Bool) (d : Duplex) (a : Outcome) → length b ≡ objectLength → d ≡ duplexOf b → object.seen a o′ ≡ duplexes d p frame o
     → b′ ≡ objectOf (a .duplex) → a .done ≡ done → seen (bit (not done)) b′ o′ ≡ duplexesObject b p frame o
 duplexed-is done b b′ p o o′ frame d a h z e f g = right-length objectLength b o (seen (bit (not done)) b′ o′) _ h (rw (f, ← g, ← z, ← e))
 
