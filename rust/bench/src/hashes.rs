@@ -3,7 +3,8 @@
 use crate::messages::{row, Call, SIZES};
 use crate::openssl::Digest;
 use crate::table::{Maker, Row};
-use exports::probe::hashes::{sha3_256, shake128};
+use exports::desk::sha3_256;
+use exports::probe::hashes::shake128;
 
 /// A hash to 32 bytes by the library and by OpenSSL.
 struct Hash {

@@ -2,7 +2,8 @@
 
 use crate::messages::{row, Call, SIZES};
 use crate::table::{Maker, Row};
-use exports::probe::sessions::{open, unwrap, wrap};
+use exports::desk::{unwrap, wrap};
+use exports::probe::sessions::open;
 
 /// The header of each pair.
 pub const HEADER: [u8; 16] = [0x42; 16];

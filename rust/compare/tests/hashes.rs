@@ -2,7 +2,8 @@
 
 use compare::hashes::{digested, filled, Shake, LONG, NEAR, TROUBLE};
 use compare::random::Random;
-use exports::probe::hashes::{sha3_256, shake128, shake256};
+use exports::desk::sha3_256;
+use exports::probe::hashes::{shake128, shake256};
 use reference::sponge;
 
 /// Both SHAKEs, the library's beside the reference's.

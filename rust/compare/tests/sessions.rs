@@ -2,7 +2,8 @@
 
 use compare::random::Random;
 use compare::sessions::{opened_by_default, Calls, Seen};
-use exports::probe::sessions::{default_open, open, unwrap, wrap};
+use exports::desk::{unwrap, wrap};
+use exports::probe::sessions::{default_open, open};
 use reference::desk::IMAGE;
 
 compare::session_tests!(Calls { wrap, unwrap });

@@ -3,41 +3,35 @@
 use crate::made_up::{around, blank, key, message, once_in, room};
 use crate::{sessions, Trial};
 use compare::duplex::{duplexed, made, object, OBJECT};
-use compare::hashes::{digested, filled, Shake};
+use compare::hashes::{filled, Shake};
 use compare::permutation::permuted;
 use compare::random::Random;
 use compare::sessions::{
     damage, length, opened_by_default, string, tag_length, Calls, RATES, TAGS,
 };
 use exports::probe::duplex::{duplexing, new};
-use exports::probe::hashes::{sha3_256, shake128, shake256};
+use exports::probe::hashes::{shake128, shake256};
 use exports::probe::permutation::{permute, permute_times};
 use exports::probe::running;
-use exports::probe::sessions::{default_open, open, unwrap, wrap};
+use exports::probe::sessions::{default_open, open};
 use reference::sponge;
 
-/// The archive's two calls on pairs.
-const CALLS: Calls = Calls { wrap, unwrap };
-
-/// The same through the running session.
+/// The two calls on pairs through the running session.
 const RUNNING: Calls = Calls {
     wrap: running::wrap,
     unwrap: running::unwrap,
 };
 
 /// Each export.
-pub const TRIALS: [Trial; 13] = [
+pub const TRIALS: [Trial; 10] = [
     ("probe_permute", try_permute),
     ("probe_permute_times", try_permute_times),
-    ("probe_sha3_256", try_sha3_256),
     ("probe_shake128", try_shake128),
     ("probe_shake256", try_shake256),
     ("probe_new_duplex", try_new_duplex),
     ("probe_duplexing", try_duplexing),
     ("probe_open", try_open),
     ("probe_default_open", try_default_open),
-    ("probe_wrap", |random| sessions::wrap(random, CALLS)),
-    ("probe_unwrap", |random| sessions::unwrap(random, CALLS)),
     ("probe_running_wrap", |random| {
         sessions::wrap(random, RUNNING)
     }),
@@ -63,11 +57,6 @@ fn try_permute(random: &mut Random) {
 fn try_permute_times(random: &mut Random) {
     let (state, times) = (state(random), random.below(40) as u64);
     permuted(|state| permute_times(state, times), &state, times);
-}
-
-fn try_sha3_256(random: &mut Random) {
-    let (message, room) = (message(random), room(random, 32));
-    digested(sha3_256, &message, &room);
 }
 
 fn try_shake128(random: &mut Random) {

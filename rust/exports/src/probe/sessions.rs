@@ -1,6 +1,4 @@
-//! The exports of sessions, each over a session's image of 216 bytes.
-
-crate::pairs::pair_calls!(probe_wrap, probe_unwrap);
+//! The exports that open sessions, each into an image of 216 bytes. Pairs are wrapped and unwrapped by the desk's.
 
 extern "C" {
     fn probe_open(
