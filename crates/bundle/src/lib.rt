@@ -19,6 +19,7 @@ use spongewrap::Session;
 use spongewrap::orders;
 pub use surveying::survey;
 pub use writing::add;
+pub use writing::end_of;
 pub use writing::start;
 
 // The format's own refusal numbers; the others are in `refusal`.

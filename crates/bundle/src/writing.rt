@@ -9,7 +9,7 @@ ghost use Rattle.spongewrap.specs.Desk.{desk};
 ghost use Rattle.spongewrap.specs.Refusals.{mostHeader, mostBody};
 ghost use Rattle.bundle.specs.Format.{version1, most, frontOf, entryOf, size};
 ghost use Rattle.bundle.specs.Answers.{refused, seen};
-ghost use Rattle.bundle.specs.Writing.{Ready, startTable, bundleOf, starts, endOf, endWith, bufferTable, addTable, withEntry, adds};
+ghost use Rattle.bundle.specs.Writing.{Ready, startTable, bundleOf, starts, endOf, endIn, endWith, bufferTable, addTable, withEntry, adds};
 use crate::MALFORMED;
 use crate::NO_LABEL;
 use crate::OTHER_VERSION;
@@ -85,12 +85,18 @@ pub fn start(s: Session, label: &[u8], bundle: &mut [u8]) -> Reply
     accept(0, session)
 }
 
-// Where a buffer says that its bundle ends.
-fn end_of(bundle: &[u8]) -> usize
-    requires { ⌜ 5 ≤ length (now bundle) ⌝ }
-    ensures { λ r. ⌜ r ≡ endOf (now (bundle .entry)) ⌝ }
+// Where the bundle in a buffer ends, by its stated length; 0 where that is past the buffer.
+pub fn end_of(bundle: &[u8]) -> usize
+    ensures { λ r. ⌜ (r ≡ endIn (now (bundle .entry))) × (r ≤ length (now (bundle .entry))) ⌝ }
 {
-    format::FIRST + fields::read_u32(bundle, 1) as usize
+    if bundle.len() < format::FIRST {
+        return 0;
+    }
+    let end = format::FIRST + fields::read_u32(bundle, 1) as usize;
+    if bundle.len() < end {
+        return 0;
+    }
+    end
 }
 
 // Where it ends with one entry more, by the lengths of the entry's header and body.
@@ -142,8 +148,7 @@ fn buffer_refusal(bundle: &[u8], header: usize, body: usize) -> Refusal
             place: 0,
         };
     }
-    let end = end_of(bundle);
-    if room < end {
+    if end_of(bundle) == 0 {
         return Refusal {
             number: MALFORMED,
             place: 1,

@@ -2,6 +2,7 @@
 use borrow.Author.Needs.{needs}
 use Rattle.bundle.specs.Writing.{bufferTable}
 use Rattle.bundle.proofs.Tables.{tables}
+use Rattle.bundle.proofs.Stores.{end-past, end-within}
 use Rattle.bundle.proofs.writing.buffer_refusal.Statement.{statement}
 use Rattle.bundle.proofs.writing.buffer_refusal.Tie as tie
 
@@ -14,8 +15,8 @@ buffer-refusal-spec =
     (λ c. search needs)
     (λ c. search tables)
     (λ c κs. search needs)
-    (λ c. search tables)
-    (λ c κs. search needs)
-    (λ c. search tables)
-    (λ c. search tables depth 8)
-    (λ c. search tables depth 8))
+    (λ c. search (tables, end-past))
+    (λ c κs. (end-within _ (c .before .end-of .ensures .0) (c .if3 .left), search needs, search needs))
+    (λ c. search (tables, end-within))
+    (λ c. search (tables, end-within) depth 8)
+    (λ c. search (tables, end-within) depth 8))
