@@ -1,4 +1,6 @@
-// The lines that the front desk prints.
+// The lines that the front desk prints. These functions only print: they answer nothing, and write to no lent buffer.
+use crate::BLANK;
+use crate::ROOM;
 use libc::STDOUT_FILENO;
 
 // How much of a body is shown.
@@ -37,15 +39,29 @@ fn print_columns() {
     print(b"  entry  place  header               body  calls\n");
 }
 
-// An entry's line, up to what came of it.
-pub fn print_entry(entry: u64, place: usize, header: &[u8], body: usize, calls: u64) {
-    print_column(entry);
-    print_column(place as u64);
+fn print_pair_columns() {
+    print(b"   pair  header               body  calls\n");
+}
+
+fn print_lengths(header: &[u8], body: usize, calls: u64) {
     print(b"  ");
     print_header(header);
     print_column(body as u64);
     print_column(calls);
     print(b"  ");
+}
+
+// An entry's line, up to what came of it.
+pub fn print_entry(entry: u64, place: usize, header: &[u8], body: usize, calls: u64) {
+    print_column(entry);
+    print_column(place as u64);
+    print_lengths(header, body, calls);
+}
+
+// The same of a pair outside a bundle.
+pub fn print_pair(pair: u64, header: &[u8], body: usize, calls: u64) {
+    print_column(pair);
+    print_lengths(header, body, calls);
 }
 
 // What came of an entry: sealed, ..
@@ -59,8 +75,17 @@ pub fn print_sealed(number: u8) {
     }
 }
 
-// .. opened, with the first bytes of its body, ..
-pub fn print_body(out: &[u8], body: usize) {
+// .. opened, or refused.
+pub fn print_outcome(number: u8, out: &[u8], body: usize) {
+    if number == 0 {
+        print_body(out, body);
+    } else {
+        print_refused(number, check::same(out, &[BLANK; ROOM]));
+    }
+}
+
+// The first bytes of a body.
+fn print_body(out: &[u8], body: usize) {
     print(b"opened: ");
     if body == 0 {
         print(b"an empty body");
@@ -79,8 +104,8 @@ fn print_start(out: &[u8], n: usize) {
     }
 }
 
-// .. or refused, and whether the lent buffer is as it was.
-pub fn print_refused(number: u8, is_unchanged: bool) {
+// A refusal, and whether the lent output is as it was.
+fn print_refused(number: u8, is_unchanged: bool) {
     print(b"refused ");
     print_number(number as u64);
     if is_unchanged {
@@ -154,4 +179,16 @@ pub fn print_shift() {
 
 pub fn print_mended() {
     print(b"Entry 2 is put right, and the session is still the one that entry 1 left.\n");
+}
+
+pub fn print_receipt() {
+    print(
+        b"\nDesk and office have the same history, so they may go on: the desk seals by its running session, the office opens by its own.\n",
+    );
+    print_pair_columns();
+}
+
+pub fn print_answer() {
+    print(b"The office answers by the session that opened.\n");
+    print_pair_columns();
 }

@@ -1,19 +1,18 @@
--- Each entry that opens is before the next, so that less is left.
+-- What is left to open, from the session and the place of a turn, is what was to open at first.
 use Prim.Native.Nat.{_-_}
-use native.Mathlib.Omega.{arith}
-use lib.ListN.{length}
+use mathlib.Core.Path.{_≡_}
 use borrow.Author.Needs.{needs}
+use Rattle.frontdesk.specs.Day.{opensFrom}
+use Rattle.frontdesk.proofs.Calls.{turn-stops, turn-goes, turn-last}
 use Rattle.frontdesk.proofs.desk.open_from.Statement.{statement}
 use Rattle.frontdesk.proofs.desk.open_from.Tie as tie
 
 abbrev Inv-loop : tie.InvT-loop
-Inv-loop bytes first session₀ place₀ session place = Unit {0}
+Inv-loop bytes first entries session₀ place₀ k₀ session place k =
+    opensFrom (entries - k) session bytes place ≡ opensFrom (entries - 1) session₀ bytes first
 
 abbrev μ-loop : tie.MeasureT-loop
-μ-loop bytes first session₀ place₀ session place = length bytes - place
-
-loop-less : tie.Need-loop-less Inv-loop μ-loop
-loop-less c = omega (arith, c .before .before .before .open-at .ensures (c .before .if1 .left))
+μ-loop bytes first entries session₀ place₀ k₀ session place k = entries - k
 
 pub open-from-spec : {M : Type 1} → statement M
 open-from-spec =
@@ -23,8 +22,9 @@ open-from-spec =
     μ-loop
     (λ c. search needs)
     (λ c κs. search needs)
+    (λ c. search turn-stops)
     (λ c. search needs)
-    loop-less
     (λ c. search needs)
+    (λ c. search turn-goes)
     (λ c κs. search needs)
-    (λ c. search needs))
+    (λ c. search turn-last))
