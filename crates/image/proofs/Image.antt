@@ -16,6 +16,7 @@ use Rattle.fields.specs.Numbers.{numberAt, bytesOf}
 use Rattle.fields.proofs.Numbers.{length-bytesOf, bytes-number, number-bytes}
 use Rattle.fields.proofs.Stores.{sets-append}
 use Rattle.spongewrap.specs.declared.Session.{Session}
+use Rattle.spongewrap.proofs.ComesBack.{copied}
 use Rattle.image.specs.Image.{imageLength, fieldsOf, fieldBytes, imageOf, sessionOf}
 use Rattle.image.specs.Runs.{OfBytes}
 use Rattle.image.proofs.Bounds.{below-take}
@@ -95,16 +96,13 @@ pub record Held (s : Session) : Type 0 where
   pub fields : Within (fieldsOf s)
 
 -- sessions are equal by their lanes and their fields
-abbrev copied : Session → Session
-copied s = record { lanes = s .lanes; rate = s .rate; tag = s .tag; pairs = s .pairs; calls = s .calls }
-
 alike : (s r : Session) → s .lanes ≡ r .lanes → fieldsOf s ≡ fieldsOf r → copied s ≡ copied r
 alike s r e f = let v = ap (map (λ (x : ℕ × ℕ). x .1)) f in cc
 
 room : 0 < 64 / 8
 room = zero-lt-suc 7
 
--- 216 is the 200 bytes of the state and the total of the fields
+-- it has the 200 bytes of the state and the total of the fields
 pub length-image : (s : Session) → length (imageOf s) ≡ imageLength
 unfolding imageOf
 length-image s = length-append (bytes 64 (s .lanes)) (fieldBytes (fieldsOf s)) ∙ rw (length-bytes, length-fields)

@@ -2,11 +2,9 @@
 -- end wrapped each pair, and whatever was refused between; so what one wraps comes back at the other.
 use Prim.Native.Nat.{ℕ, suc, _≤_}
 use native.Mathlib.Omega.{arith}
-use mathlib.Core.Path.{_≡_, refl, sym, ap, _∙_}
+use mathlib.Core.Path.{_≡_, refl, sym, ap}
 use mathlib.Core.List.{List, [], _∷_, _++_, map}
 use lib.ListN.{length, getD, drop}
-use Rattle.sponge.specs.Sponge.{sponge}
-use Rattle.duplex.specs.Strings.{cut}
 use Rattle.spongewrap.specs.Sessions.{opens, seen, wraps, unwraps}
 use Rattle.spongewrap.specs.History.{Call, SealedPair, content, afterCalls, acceptedPairs, pairBlocks, pairsBlocks, history, Tells}
 use Rattle.spongewrap.specs.Kinds.{Kind}
@@ -25,10 +23,9 @@ same-blocks R t (p ∷ ps) (q ∷ qs) e =
     let i = same-blocks R t ps qs (ap (drop 1) e) in
     (rw (ap (λ (x : List ℕ × List ℕ). x .0) c, ap (λ (x : List ℕ × List ℕ). x .1) c, i .0), ap suc (i .1))
 
--- a session is its five parts
-parts : {l l′ : List ℕ} {a a′ b b′ c c′ d d′ : ℕ} → l ≡ l′ → a ≡ a′ → b ≡ b′ → c ≡ c′ → d ≡ d′
-    → _≡_ {A = Session} (record { lanes = l; rate = a; tag = b; pairs = c; calls = d }) (record { lanes = l′; rate = a′; tag = b′; pairs = c′; calls = d′ })
-parts u v w x y = cc
+-- a session by its parts: `cc` finds two of them alike where their parts are
+abbrev pub copied : Session → Session
+copied s = record { lanes = s .lanes; rate = s .rate; tag = s .tag; pairs = s .pairs; calls = s .calls }
 
 module _ (K : Kind) where
   -- what is told of two sessions makes them one, where the headers and bodies are the same
@@ -36,9 +33,8 @@ module _ (K : Kind) where
   unfolding history
   told-same R t key ps qs s r e x y =
       let z = same-blocks R t ps qs e in
-      let h : cut R 1 0 key ++ pairsBlocks R t ps ≡ cut R 1 0 key ++ pairsBlocks R t qs = rw (z .0) in
-      parts (x .state ∙ ap (sponge (K .w) (K .f)) h ∙ sym (y .state)) (x .rate ∙ sym (y .rate)) (x .tag ∙ sym (y .tag)) (x .pairs ∙ z .1 ∙ sym (y .pairs))
-      (sym (x .blocks-number) ∙ ap length h ∙ y .blocks-number)
+      let g : copied s ≡ copied r = cc in
+      g
 
   module _ (key : List ℕ) (R t : ℕ) (e : opens K key R t .number ≡ 0) where
     abbrev begun : Session
