@@ -40,7 +40,7 @@ open-held key R t h e =
     rw (made (openRefusal desk (length key) R t) none (fresh desk R t key) e)
     (record {
       lanes = absorbed-state f1600-keeps R 1 0 (omega arith) (omega arith) key h _ (zeros-state 64);
-      fields = (omega arith, (omega arith, (omega arith, (omega (arith, blocks-most R (length key)), tt))));
+      fields = omega (arith, blocks-most R (length key));
     })
 
 -- ---- a call, accepted or refused
@@ -54,7 +54,7 @@ module _ (s : Session) (e : Held s) where
         lanes =
             after-state f1600-keeps (s .rate) _ (s .tag)
             (absorbed-state f1600-keeps (s .rate) 1 0 (omega arith) (omega arith) b v _ (absorbed-state f1600-keeps (s .rate) 0 1 (omega arith) (omega arith) h u (s .lanes) (e .lanes)));
-        fields = (e .fields .0, (e .fields .1 .0, (omega arith, (omega (arith, n (length h), n (length b), n (s .tag)), tt))));
+        fields = omega (arith, n (length h), n (length b), n (s .tag));
       }
 
   recovered-bytes : (h c : List ℕ) → OfBytes c → OfBytes (recovered desk s h c)
