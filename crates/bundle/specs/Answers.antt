@@ -6,7 +6,7 @@ use lib.Dec.{eqb}
 use lib.ListN.{getD}
 use Rattle.spongewrap.specs.Desk.{desk}
 use Rattle.refusal.specs.Rows.{first, by}
-use Rattle.spongewrap.specs.Refusals.{full, ownRows}
+use Rattle.spongewrap.specs.Refusals.{rowsOf}
 use Rattle.spongewrap.specs.declared.Session.{Session}
 use Rattle.bundle.specs.declared.Entry.{Entry}
 use Rattle.bundle.specs.declared.Entry.the-variants.{Whole, Short, Large, Past}
@@ -39,7 +39,7 @@ placed place rows = refused (first rows) place
 
 -- a session's own rows, with the bundle's rate and tag length: 1, 3, 7
 abbrev pub own : Version → Session → List (Bool × ℕ)
-own v s = ownRows (not (eqb (s .rate) bundleRate)) (not (eqb (s .tag) (v .tag))) (full (desk .ceiling) (s .pairs) (s .calls))
+own v s = rowsOf (desk .ceiling) s (not (eqb (s .rate) bundleRate)) (not (eqb (s .tag) (v .tag)))
 
 -- ---- the answers that are enums
 

@@ -1,5 +1,5 @@
 -- What holds where no row of a table does, and how the rows of an unwrap stand to those of a wrap.
-use Prim.Native.Nat.{ℕ, _+_, _≤_, _<_}
+use Prim.Native.Nat.{ℕ, _+_, _≤_}
 use native.Mathlib.Omega.{arith}
 use mathlib.Core.Path.{_≡_, refl, sym, _∙_}
 use mathlib.Core.List.{List, [], _∷_, _++_}
@@ -10,7 +10,7 @@ use Rattle.refusal.specs.Rows.{pick, first, by, short}
 use Rattle.refusal.proofs.Tests.{neither, inside}
 use Rattle.refusal.proofs.Rows.{kept, made, by-zero, Clear, all-clear, clear-first, clear-append, clear-parts, first-append}
 use Rattle.duplex.specs.Duplex.{Rate}
-use Rattle.spongewrap.specs.Refusals.{leastSize, mostSize, mostHeader, mostBody, mostPairs, badRate, badSize, full, openRows, ownRows, partRows, openRefusal, commonRows, wrapRefusal, readyRows, unwrapRefusal, Fits}
+use Rattle.spongewrap.specs.Refusals.{leastSize, mostSize, mostHeader, mostBody, mostPairs, badRate, badSize, openRows, rowsOf, partRows, openRefusal, commonRows, wrapRefusal, readyRows, unwrapRefusal, Fits}
 use Rattle.spongewrap.specs.Kinds.{Rates, Kind}
 use Rattle.spongewrap.specs.declared.Session.{Session}
 
@@ -45,10 +45,10 @@ module _ (K : Kind) where
 
   -- the number that the session's own rows, and then the others, come to
   pub pair-is : (s : Session) (h b own r : ℕ) (x y z short : Bool) → x ≡ badRate (K .rates) (s .rate) → y ≡ badSize (s .tag)
-      → own ≡ first (ownRows x y (full (K .ceiling) (s .pairs) (s .calls))) → z ≡ short → r ≡ by own own (first (partRows h b ++ (z, 6) ∷ []))
+      → own ≡ first (rowsOf (K .ceiling) s x y) → z ≡ short → r ≡ by own own (first (partRows h b ++ (z, 6) ∷ []))
       → r ≡ first (commonRows K s h b ++ (short, 6) ∷ [])
   pair-is s h b own r x y z short p q e i f =
-      f ∙ rw (e, p, q, i) (sym (first-append (ownRows (badRate (K .rates) (s .rate)) (badSize (s .tag)) (full (K .ceiling) (s .pairs) (s .calls))) (partRows h b ++ (short, 6) ∷ []) refl))
+      f ∙ rw (e, p, q, i) (sym (first-append (rowsOf (K .ceiling) s (badRate (K .rates) (s .rate)) (badSize (s .tag))) (partRows h b ++ (short, 6) ∷ []) refl))
 
   -- a wrap that is not refused
   pub wrap-fits : (s : Session) (h b o : ℕ) → wrapRefusal K s h b o ≡ 0 → Fits K s h b × (b + s .tag ≤ o)

@@ -57,6 +57,10 @@ openRows rate key tag = (rate, 1) ∷ (badSize key, 2) ∷ (badSize tag, 3) ∷ 
 abbrev pub ownRows : Bool → Bool → Bool → List (Bool × ℕ)
 ownRows rate tag full = (rate, 1) ∷ (tag, 3) ∷ (full, 7) ∷ []
 
+-- those of the session s, by its kind's ceiling and by what is found of its rate and of its tag length
+abbrev pub rowsOf : ℕ → Session → Bool → Bool → List (Bool × ℕ)
+rowsOf ceiling s rate tag = ownRows rate tag (full ceiling (s .pairs) (s .calls))
+
 -- the rows of a header and a body
 abbrev pub partRows : ℕ → ℕ → List (Bool × ℕ)
 partRows header body = (longHeader header, 4) ∷ (longBody body, 5) ∷ []
@@ -69,8 +73,7 @@ module _ (K : Kind) where
 
   -- what a wrap and an unwrap have in common
   abbrev pub commonRows : Session → ℕ → ℕ → List (Bool × ℕ)
-  commonRows s header body =
-      ownRows (badRate (K .rates) (s .rate)) (badSize (s .tag)) (full (K .ceiling) (s .pairs) (s .calls)) ++ partRows header body
+  commonRows s header body = rowsOf (K .ceiling) s (badRate (K .rates) (s .rate)) (badSize (s .tag)) ++ partRows header body
 
   unfoldable pub wrapRefusal : Session → ℕ → ℕ → ℕ → ℕ
   wrapRefusal s header body out = first (commonRows s header body ++ (short out (body + s .tag), 6) ∷ [])

@@ -2,7 +2,7 @@
 ghost use mathlib.Core.Path.{_≡_};
 ghost use mathlib.Core.List.{[], _∷_, _++_};
 ghost use Rattle.refusal.specs.Rows.{first, by};
-ghost use Rattle.spongewrap.specs.Refusals.{badRate, badSize, full, openRows, ownRows, partRows, openRefusal, wrapRefusal, readyRows};
+ghost use Rattle.spongewrap.specs.Refusals.{badRate, badSize, full, openRows, ownRows, rowsOf, partRows, openRefusal, wrapRefusal, readyRows};
 ghost use Rattle.spongewrap.specs.Desk.{desk};
 use crate::Session;
 
@@ -101,7 +101,7 @@ pub fn of_open(key: usize, rate: u16, tag: u16) -> u8
 
 // A session's own rows, where its user says whether its rate and its tag length are bad: a bundle takes one of each.
 pub fn of_session(s: Session, rate: bool, tag: bool) -> u8
-    ensures { λ r. ⌜ r ≡ first (ownRows rate tag (full (desk .ceiling) (s .pairs) (s .calls))) ⌝ }
+    ensures { λ r. ⌜ r ≡ first (rowsOf (desk .ceiling) s rate tag) ⌝ }
 {
     of_own(rate, tag, is_full(s.pairs, s.calls, MOST_CALLS))
 }
