@@ -25,10 +25,10 @@ use Rattle.bundle.specs.Format.{Version, bundleRate, bodyLength, headerA
 use Rattle.bundle.specs.Answers.{Told, own, _orElse_, entryTold, Seen, seen}
 use Rattle.bundle.specs.Opening.{lastRows, openTable, bodyAt, unwrapsAt, opensEntry}
 use Rattle.bundle.specs.Writing.{Ready, starts}
-use Rattle.bundle.specs.Contents.{Pair, labelled, afterPairs, addsAll, AllAdded}
+use Rattle.bundle.specs.Contents.{Pair, labelled, afterPairs}
 use Rattle.bundle.proofs.Tables.{through, fit, wrap-rows}
 use Rattle.bundle.proofs.Entries.{whole-at}
-use Rattle.bundle.proofs.Contents.{Sealed}
+use Rattle.bundle.proofs.Contents.{addsAll, AllAdded, Sealed}
 use Rattle.bundle.proofs.Opened.{open-told, open-is}
 use Rattle.bundle.proofs.Written.{all-holds}
 use Rattle.bundle.proofs.Theorems.{opened-tag}

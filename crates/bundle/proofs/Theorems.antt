@@ -24,10 +24,10 @@ use Rattle.bundle.specs.Answers.{Told, refused, accepted, own, _orElse_,
 use Rattle.bundle.specs.Survey.{unlabelled, entriesFrom, surveys}
 use Rattle.bundle.specs.Opening.{lastRows, openTable, bodyAt, opensEntry}
 use Rattle.bundle.specs.Writing.{startTable, starts, endOf, endWith, addTable, withEntry, adds}
-use Rattle.bundle.specs.Contents.{Pair, labelled, afterPairs, entriesOf, bundleWith, addsAll, AllAdded, OpensAll}
+use Rattle.bundle.specs.Contents.{Pair, labelled, afterPairs, entriesOf, bundleWith}
 use Rattle.bundle.proofs.Tables.{through}
 use Rattle.bundle.proofs.Entries.{entry-whole, last-good, survey-walks}
-use Rattle.bundle.proofs.Contents.{number-in, length-entry, stands, Sealed, opens-all, walk-all}
+use Rattle.bundle.proofs.Contents.{number-in, length-entry, stands, addsAll, AllAdded, OpensAll, Sealed, opens-all, walk-all}
 use Rattle.bundle.proofs.Stores.{start-accepted, add-accepted, adds-is}
 use Rattle.bundle.proofs.Written.{Holds, ends, number-first, all-holds}
 

@@ -20,8 +20,7 @@ use Rattle.spongewrap.specs.declared.Session.{Session}
 use Rattle.spongewrap.proofs.Passed.{open-fits, wrap-fits, unwrap-fits}
 use Rattle.spongewrap.proofs.Settle.{length-recovered}
 use Rattle.spongewrap.proofs.Theorems.{wrap-number, wrap-kept, unwrap-kept, wrapped-is, unwrapped-is, accepted-ready}
-use Rattle.image.specs.Runs.{OfBytes, Handed}
-use Rattle.image.proofs.Bounds.{Keeps, absorbed-state, after-state, zeros-state, opened-bytes}
+use Rattle.image.proofs.Bounds.{Below, Keeps, absorbed-state, after-state, zeros-state, opened-bytes}
 use Rattle.image.proofs.Image.{Within, Held}
 
 f1600-keeps : Keeps 64 f1600
@@ -33,7 +32,7 @@ blocks-most R n = omega (arith, div-le-self (n - 1) (R - 1))
 
 -- ---- an accepted open
 
-pub open-held : (key : List ℕ) (R t : ℕ) → OfBytes key → opens desk key R t .number ≡ 0 → Held (opens desk key R t .session)
+pub open-held : (key : List ℕ) (R t : ℕ) → Below 256 key → opens desk key R t .number ≡ 0 → Held (opens desk key R t .session)
 unfolding opens keyed Within
 open-held key R t h e =
     let o = open-fits desk (length key) R t e in
@@ -45,8 +44,13 @@ open-held key R t h e =
 
 -- ---- a call, accepted or refused
 
+-- it is handed bytes, and not just any numbers
+unfoldable pub Handed : Call → Type 0
+Handed (wrapping h b o) = Below 256 h × Below 256 b
+Handed (unwrapping h c t o) = Below 256 h × Below 256 c
+
 module _ (s : Session) (e : Held s) where
-  next-held : (h b : List ℕ) → OfBytes h → OfBytes b → Fits desk s (length h) (length b) → Held (next desk s h b)
+  next-held : (h b : List ℕ) → Below 256 h → Below 256 b → Fits desk s (length h) (length b) → Held (next desk s h b)
   unfolding next advanced cost left bodied headed Within
   next-held h b u v f =
       let n = blocks-most (s .rate) in
@@ -57,7 +61,7 @@ module _ (s : Session) (e : Held s) where
         fields = omega (arith, n (length h), n (length b), n (s .tag));
       }
 
-  recovered-bytes : (h c : List ℕ) → OfBytes c → OfBytes (recovered desk s h c)
+  recovered-bytes : (h c : List ℕ) → Below 256 c → Below 256 (recovered desk s h c)
   unfolding recovered plaintext
   recovered-bytes h c u = opened-bytes 64 f1600 (s .rate) (headed 64 f1600 (s .rate) (s .lanes) h) c u
 

@@ -18,8 +18,7 @@ use Rattle.fields.proofs.Stores.{sets-append}
 use Rattle.spongewrap.specs.declared.Session.{Session}
 use Rattle.spongewrap.proofs.ComesBack.{copied}
 use Rattle.image.specs.Image.{imageLength, fieldsOf, fieldBytes, imageOf, sessionOf}
-use Rattle.image.specs.Runs.{OfBytes}
-use Rattle.image.proofs.Bounds.{below-take}
+use Rattle.image.proofs.Bounds.{Below, below-take}
 
 -- ---- fields, a width and a value each, one behind the other
 
@@ -81,7 +80,7 @@ read-fields p at (f ∷ fs) e h =
     let i = read-fields (p ++ B) (at + f .0) fs n (h .1) in
     rw (number-bytes (f .0) (f .1) p (fieldBytes fs) at (h .0) e, rw append-assoc at i)
 
-written-fields : (b : List ℕ) (at : ℕ) (fs : List (ℕ × ℕ)) → at + total fs ≡ length b → OfBytes b → fieldBytes (readAt b at fs) ≡ drop at b
+written-fields : (b : List ℕ) (at : ℕ) (fs : List (ℕ × ℕ)) → at + total fs ≡ length b → Below 256 b → fieldBytes (readAt b at fs) ≡ drop at b
 unfolding fieldBytes
 written-fields b at [] e h = sym (drop-of-length-le b {i = at} (omega arith))
 written-fields b at (f ∷ fs) e h =
@@ -123,7 +122,7 @@ session-image s h =
     alike (sessionOf (imageOf s)) s l (read-fields X 200 (fieldsOf s) x (h .fields))
 
 -- and an image from its session
-pub image-session : (b : List ℕ) → length b ≡ imageLength → OfBytes b → imageOf (sessionOf b) ≡ b
+pub image-session : (b : List ℕ) → length b ≡ imageLength → Below 256 b → imageOf (sessionOf b) ≡ b
 unfolding imageOf sessionOf
 image-session b l h =
     rw (front-lanes b, bytes-of-lanes 64 room (take 200 b) (length-take-le 200 b (omega arith)) (below-take 256 (zero-lt-suc 255) 200 b h), written-fields b 200 (fieldsOf (sessionOf b)) (sym l) h)

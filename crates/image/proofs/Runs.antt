@@ -11,7 +11,7 @@ use Rattle.refusal.proofs.Rows.{made}
 use Rattle.spongewrap.specs.Desk.{desk}
 use Rattle.spongewrap.specs.Sessions as sessions
 use Rattle.spongewrap.specs.Sessions.{opens, wraps, unwraps}
-use Rattle.spongewrap.specs.History.{Call, answered, SealedPair, pairOf, content, afterCalls, acceptedPairs, Tells}
+use Rattle.spongewrap.specs.History.{Call, answered, SealedPair, pairWith, content, afterCalls, acceptedPairs, Tells}
 use Rattle.spongewrap.specs.History.Call.{wrapping, unwrapping}
 use Rattle.spongewrap.specs.declared.Session.{Session}
 use Rattle.spongewrap.proofs.Theorems.{wrap-kept, unwrap-kept}
@@ -19,10 +19,31 @@ use Rattle.spongewrap.proofs.Histories.{history-tells}
 use Rattle.spongewrap.proofs.ComesBack.{same-history}
 use Rattle.image.specs.Image.{imageLength, imageOf, sessionOf}
 use Rattle.image.specs.Calls.{Seen, seen, whole, opensImage, wrapsImage, unwrapsImage}
-use Rattle.image.specs.Runs.{callsImage, imageAfter, acceptedImage, OfBytes, AllHanded}
+use Rattle.image.proofs.Bounds.{Below}
 use Rattle.image.proofs.Image.{Held, length-image, session-image}
 use Rattle.image.proofs.Calls.{was-whole, wrap-unwrap}
-use Rattle.image.proofs.Held.{open-held, call-held}
+use Rattle.image.proofs.Held.{open-held, Handed, call-held}
+
+-- ---- calls over an image, each given the image that the last one left
+
+unfoldable pub callsImage : List ℕ → Call → Seen
+callsImage i (wrapping h b o) = wrapsImage i h b o
+callsImage i (unwrapping h c t o) = unwrapsImage i h c t o
+
+-- the image that some calls leave
+unfoldable pub imageAfter : List ℕ → List Call → List ℕ
+imageAfter i [] = i
+imageAfter i (c ∷ cs) = imageAfter (callsImage i c .image) cs
+
+-- the pairs that were accepted
+unfoldable pub acceptedImage : List ℕ → List Call → List SealedPair
+acceptedImage i [] = []
+acceptedImage i (c ∷ cs) =
+    by (callsImage i c .number) [] (pairWith (sessionOf i .tag) c (callsImage i c .out) ∷ []) ++ acceptedImage (callsImage i c .image) cs
+
+unfoldable pub AllHanded : List Call → Type 0
+AllHanded [] = Unit {0}
+AllHanded (c ∷ cs) = Handed c × AllHanded cs
 
 -- ---- one call
 
@@ -79,7 +100,7 @@ module _ (key : List ℕ) (R t : ℕ) where
   abbrev begun : Session
   begun = opens desk key R t .session
 
-  module _ (k : OfBytes key) where
+  module _ (k : Below 256 key) where
     module _ (i : List ℕ) (e : opensImage key R t i .number ≡ 0) where
       opened : (opens desk key R t .number ≡ 0) × (opensImage key R t i .image ≡ imageOf begun)
       unfolding opensImage whole
