@@ -1,4 +1,4 @@
--- What the desk and the office make of their calls, each with a dots output of its own to lend (document 01, "Bundle, version 1" and "SpongeWrap").
+-- What the calls of desk and office answer (document 01, "Bundle, version 1" and "SpongeWrap").
 use Prim.Native.Nat.{ℕ, zero, suc, _-_}
 use mathlib.Core.List.{List, []}
 use lib.ListN.{take, drop, replicate}
@@ -12,6 +12,7 @@ use Rattle.bundle.specs.Format.{version1, bundleRate, headerAt, entryAt}
 use Rattle.bundle.specs.Answers.{entryTold}
 use Rattle.bundle.specs.Opening.{opensEntry}
 
+-- the output that each call is lent
 abbrev pub dots : List ℕ
 dots = replicate 256 46
 
@@ -19,11 +20,11 @@ dots = replicate 256 46
 abbrev pub bundleSession : List ℕ → Session
 bundleSession key = opens desk key bundleRate (version1 .tag) .session
 
--- the header of the entry at a place; none where no entry is whole
+-- ---- the desk opens entries
+
+-- the header of the entry at a place; empty where no entry is whole
 unfoldable pub wholeHeader : List ℕ → ℕ → List ℕ
 wholeHeader b place = by (entryTold (entryAt version1 b place) place .number) [] (headerAt b place)
-
--- ---- the desk opens entries
 
 unfoldable pub opensAt : Session → List ℕ → ℕ → Reply
 opensAt s b place = opensEntry version1 s b place dots .answer
@@ -35,15 +36,16 @@ opensFrom (suc n) s b place =
     by (opensAt s b place .number) (opensAt s b place .session)
     (opensFrom n (opensAt s b place .session) b (opensAt s b place .next))
 
--- the session after a bundle of n entries: entry zero first, and the others only under the label that is expected
-unfoldable pub opensBundle : List ℕ → List ℕ → List ℕ → ℕ → Session
-opensBundle key label b n =
-    by (opensAt (bundleSession key) b 5 .number) (opensAt (bundleSession key) b 5 .session)
-    (pick (same (wholeHeader b 5) label)
-    (opensFrom (n - 1) (opensAt (bundleSession key) b 5 .session) b (opensAt (bundleSession key) b 5 .next))
-    (opensAt (bundleSession key) b 5 .session))
+-- the session after a bundle of n entries, by the reply r to the opening of entry zero: the others follow under the label that is expected
+abbrev opensRest : Reply → List ℕ → List ℕ → ℕ → Session
+opensRest r label b n =
+    by (r .number) (r .session)
+    (pick (same (wholeHeader b 5) label) (opensFrom (n - 1) (r .session) b (r .next)) (r .session))
 
--- ---- a pair outside a bundle: what one side seals, and the other side's session once it opened that
+unfoldable pub opensBundle : List ℕ → List ℕ → List ℕ → ℕ → Session
+opensBundle key label b n = opensRest (opensAt (bundleSession key) b 5) label b n
+
+-- ---- a pair outside a bundle: what one side seals, and the session of the other side after it opened that
 
 unfoldable pub sealedPair : Session → List ℕ → List ℕ → List ℕ
 sealedPair s h b = wraps desk s h b dots .out

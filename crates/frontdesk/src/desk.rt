@@ -5,7 +5,7 @@ ghost use lib.ListN.{getD};
 ghost use Rattle.bundle.specs.Format.{version1};
 ghost use Rattle.bundle.specs.Survey.{surveys};
 ghost use Rattle.frontdesk.specs.Day.{wholeHeader, opensAt, opensFrom, opensBundle};
-use crate::BLANK;
+use crate::DOT;
 use crate::ROOM;
 use crate::lines;
 use crate::office;
@@ -71,7 +71,7 @@ fn show(answer: Reply, entry: u32, bytes: &[u8], place: usize, out: &[u8]) {
 fn open_at(s: Session, bytes: &[u8], place: usize) -> Reply
     ensures { λ r. ⌜ r ≡ opensAt s (now (bytes .entry)) place ⌝ }
 {
-    let mut out = [BLANK; ROOM];
+    let mut out = [DOT; ROOM];
     let answer = bundle::open_entry(s, bytes, place, &mut out);
     show(answer, s.pairs, bytes, place, &out);
     answer

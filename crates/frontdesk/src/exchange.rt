@@ -5,7 +5,7 @@ ghost use lib.ListN.{length};
 ghost use Rattle.spongewrap.specs.Desk.{desk};
 ghost use Rattle.spongewrap.specs.Sessions.{wraps};
 ghost use Rattle.frontdesk.specs.Day.{dots, sealedPair, opensPair};
-use crate::BLANK;
+use crate::DOT;
 use crate::ROOM;
 use crate::lines;
 use spongewrap::Session;
@@ -21,7 +21,7 @@ fn open(s: Session, header: &[u8], sealed: &[u8], n: usize) -> Session
     requires { ⌜ n + 16 ≤ length (now sealed) ⌝ }
     ensures { λ r. ⌜ r ≡ opensPair s (now (header .entry)) n (now (sealed .entry)) ⌝ }
 {
-    let mut out = [BLANK; ROOM];
+    let mut out = [DOT; ROOM];
     let end = n + bundle::TAG;
     let done = running::unwrap_lent(s, header, &sealed[..n], &sealed[n..end], &mut out);
     let session = done.session;
@@ -35,7 +35,7 @@ fn pass(from: Session, to: Session, header: &[u8], body: &[u8]) -> Sides
     requires { ⌜ length (now body) ≤ 240 ⌝ }
     ensures { λ r. ⌜ (r .sealer ≡ wraps desk from (now (header .entry)) (now (body .entry)) dots .answer .session) × (r .opener ≡ opensPair to (now (header .entry)) (length (now (body .entry))) (sealedPair from (now (header .entry)) (now (body .entry)))) ⌝ }
 {
-    let mut sealed = [BLANK; ROOM];
+    let mut sealed = [DOT; ROOM];
     let n = body.len();
     let done = running::wrap_lent(from, header, body, &mut sealed);
     let session = done.session;

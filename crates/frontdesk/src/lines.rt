@@ -1,5 +1,5 @@
 // The lines that the front desk prints. These functions only print: they answer nothing, and write to no lent buffer.
-use crate::BLANK;
+use crate::DOT;
 use crate::ROOM;
 use libc::STDOUT_FILENO;
 
@@ -39,10 +39,7 @@ fn print_columns() {
     print(b"  entry  place  header               body  calls\n");
 }
 
-fn print_pair_columns() {
-    print(b"   pair  header               body  calls\n");
-}
-
+// What the lines of entries and of pairs share.
 fn print_lengths(header: &[u8], body: usize, calls: u64) {
     print(b"  ");
     print_header(header);
@@ -80,7 +77,7 @@ pub fn print_outcome(number: u8, out: &[u8], body: usize) {
     if number == 0 {
         print_body(out, body);
     } else {
-        print_refused(number, check::same(out, &[BLANK; ROOM]));
+        print_refused(number, check::same(out, &[DOT; ROOM]));
     }
 }
 
@@ -183,12 +180,11 @@ pub fn print_mended() {
 
 pub fn print_receipt() {
     print(
-        b"\nDesk and office have the same history, so they may go on: the desk seals by its running session, the office opens by its own.\n",
+        b"\nBoth sides have the same history, so their sessions run on: the desk seals a receipt, and the office opens it.\n",
     );
-    print_pair_columns();
+    print(b"   pair  header               body  calls\n");
 }
 
 pub fn print_answer() {
-    print(b"The office answers by the session that opened.\n");
-    print_pair_columns();
+    print(b"The office answers, and the desk opens that.\n");
 }

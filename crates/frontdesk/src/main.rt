@@ -6,7 +6,7 @@ mod lines; // lines.rt: what is printed
 mod office; // office.rt: the bundle sealed
 
 // What a lent output holds beforehand, and how long it is.
-const BLANK: u8 = 0x2e;
+const DOT: u8 = b'.';
 
 const ROOM: usize = 256;
 

@@ -12,4 +12,4 @@ returns : tie.Need-returns
 returns c = rw (c .before .end-of .ensures .0)
 
 pub bundle-in-spec : {M : Type 1} → statement M
-bundle-in-spec = tie.close (tie.spec (λ c κs. search needs) (λ c. search needs) slice-aggregate-result returns)
+bundle-in-spec = tie.close (tie.spec (λ c κs. search needs) slice-aggregate-result returns)
