@@ -66,7 +66,7 @@ fn survey_entries(bundle: &[u8]) -> Surveyed
     Surveyed::Entries(count)
 }
 
-// Whether bytes are a bundle, and of how many entries. No tag is looked at: a bundle is open when each entry has opened.
+// The survey (document 01, "Bundle, version 1"): whether bytes are a bundle, and of how many entries. No tag is looked at: a bundle is open when each entry has opened.
 pub fn survey(bundle: &[u8]) -> Surveyed
     ensures { λ r. ⌜ surveyTold r ≡ surveys version1 (now (bundle .entry)) ⌝ }
 {

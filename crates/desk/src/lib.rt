@@ -12,6 +12,7 @@ const TAG: u16 = 16;
 // How many bytes SHA3-256 gives.
 const DIGEST: usize = 32;
 
+// Opens a session into an image (document 01, "Desk surface").
 #[no_mangle]
 pub extern "C" fn feefledown_open(key: &[u8], image: &mut [u8]) -> u8
     ensures { λ r. ⌜ seen r (now (image .exit)) [] ≡ opensImage (now (key .entry)) deskRate deskTag (now (image .entry)) ⌝ }
@@ -19,6 +20,7 @@ pub extern "C" fn feefledown_open(key: &[u8], image: &mut [u8]) -> u8
     image::open(key, RATE, TAG, image)
 }
 
+// Seals a pair: SpongeWrap's wrap over an image.
 #[no_mangle]
 pub extern "C" fn feefledown_wrap(
     image: &mut [u8],
@@ -31,6 +33,7 @@ pub extern "C" fn feefledown_wrap(
     image::wrap(image, header, body, out)
 }
 
+// Opens a pair: SpongeWrap's unwrap over an image.
 #[no_mangle]
 pub extern "C" fn feefledown_unwrap(
     image: &mut [u8],
@@ -44,6 +47,7 @@ pub extern "C" fn feefledown_unwrap(
     image::unwrap(image, header, ciphertext, tag, body)
 }
 
+// SHA3-256 (FIPS 202, section 6.1) into the first 32 bytes of a lent buffer.
 #[no_mangle]
 pub extern "C" fn feefledown_sha3_256(message: &[u8], digest: &mut [u8]) -> u8
     ensures { λ r. ⌜ hashed r (now (digest .exit)) ≡ hashes (now (message .entry)) (now (digest .entry)) ⌝ }

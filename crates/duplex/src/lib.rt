@@ -1,5 +1,5 @@
 // The duplex over Keccak-f[1600]: framed pieces go in one by one, and each leaves output that depends on all before it.
-// Below it, the string functions that SpongeWrap is made of.
+// This is the duplex object of "Duplexing the sponge"; below it stand the string functions that SpongeWrap is made of.
 ghost use mathlib.Core.Path.{_≡_};
 ghost use mathlib.Core.List.{_++_};
 ghost use Prim.Native.Nat.{_<_, _≤_};

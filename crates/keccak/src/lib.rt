@@ -66,13 +66,14 @@ fn spread(a: [u64; 25], d: [u64; 5]) -> [u64; 25]
     ]
 }
 
+// θ (FIPS 202, section 3.2.1): each lane takes the parities of two neighbouring columns.
 pub fn theta(a: [u64; 25]) -> [u64; 25]
     ensures { λ r. ⌜ r ≡ theta 64 a ⌝ }
 {
     spread(a, column_effects(column_parities(a)))
 }
 
-// ρ: each lane turned left by its offset. Lane 0 has offset 0 and stays: a shift by the whole width would be undefined.
+// ρ (FIPS 202, section 3.2.2): each lane turned left by its offset. Lane 0 has offset 0 and stays: a shift by the whole width would be undefined.
 pub fn rho(a: [u64; 25]) -> [u64; 25]
     ensures { λ r. ⌜ r ≡ rho 64 a ⌝ }
 {
@@ -105,6 +106,7 @@ pub fn rho(a: [u64; 25]) -> [u64; 25]
     ]
 }
 
+// π (FIPS 202, section 3.2.3): each lane moves to its new place.
 pub fn pi(a: [u64; 25]) -> [u64; 25]
     ensures { λ r. ⌜ r ≡ pi a ⌝ }
 {
@@ -137,7 +139,8 @@ pub fn pi(a: [u64; 25]) -> [u64; 25]
     ]
 }
 
-// χ on one row in place: the five lanes from place i on, which are set aside.
+// χ on one row: the five lanes that start at place i. Each takes what two lanes to its right had before, so the row is kept aside while it is
+// overwritten.
 fn chi_row(a: [u64; 25], i: usize) -> [u64; 25]
     requires { ⌜ i ≤ 20 ⌝ }
     ensures { λ r. ⌜ r ≡ chi-row 64 i a ⌝ }
@@ -152,13 +155,14 @@ fn chi_row(a: [u64; 25], i: usize) -> [u64; 25]
     b
 }
 
-// χ, the last row first: compiled in this order, a round moves fewer lanes between registers and the stack.
+// χ (FIPS 202, section 3.2.4), the last row first: in this order the compiled round moves fewer lanes between registers and memory.
 pub fn chi(a: [u64; 25]) -> [u64; 25]
     ensures { λ r. ⌜ r ≡ chi 64 a ⌝ }
 {
     chi_row(chi_row(chi_row(chi_row(chi_row(a, 20), 15), 10), 5), 0)
 }
 
+// ι (FIPS 202, section 3.2.5): the round's constant goes into lane (0, 0).
 pub fn iota(a: [u64; 25], constant: u64) -> [u64; 25]
     ensures { λ r. ⌜ r ≡ iota constant a ⌝ }
 {
@@ -174,11 +178,11 @@ fn one_round(a: [u64; 25], constant: u64) -> [u64; 25]
     iota(chi(pi(rho(theta(a)))), constant)
 }
 
-// The permutation: all 24 rounds.
+// Keccak-f[1600] (FIPS 202, sections 3.3 and 3.4): all 24 rounds.
 pub fn permuted(a: [u64; 25]) -> [u64; 25]
     ensures { λ r. ⌜ r ≡ f1600 a ⌝ }
 {
-    // a const array is laid out anew wherever a variable indexes it: once, before the loop
+    // The compiler writes a const array out on the stack wherever a variable indexes it, so it is copied once, before the loop.
     let table = tables::CONSTANTS;
     let mut b = a;
     let mut k: usize = 0;

@@ -31,8 +31,8 @@ pub fn unwrap_in_place(
     done.number
 }
 
-// The same by value: the session is lent to the call above and given back. The proofs of programs stop at a reference that
-// they make themselves, so a program goes this way.
+// The same for a caller that holds its session as a value: it is put where `wrap_in_place` can advance it, and the advanced one is handed
+// back. Programs call this one: the checker follows a reference that a function is given, and not one that it makes itself.
 pub fn wrap_lent(s: Session, header: &[u8], body: &[u8], out: &mut [u8]) -> Answer
     ensures { λ r. ⌜ seen r (now (out .exit)) ≡ wraps desk s (now (header .entry)) (now (body .entry)) (now (out .entry)) ⌝ }
 {
@@ -44,6 +44,7 @@ pub fn wrap_lent(s: Session, header: &[u8], body: &[u8], out: &mut [u8]) -> Answ
     }
 }
 
+// `unwrap_in_place` for a caller that holds its session as a value.
 pub fn unwrap_lent(s: Session, header: &[u8], cipher: &[u8], tag: &[u8], out: &mut [u8]) -> Answer
     ensures { λ r. ⌜ seen r (now (out .exit)) ≡ unwraps desk s (now (header .entry)) (now (cipher .entry)) (now (tag .entry)) (now (out .entry)) ⌝ }
 {

@@ -174,6 +174,7 @@ fn hash_into(message: &[u8], suffix: u8, rate: usize, out: &mut [u8])
     squeeze_into(absorbed_message(zeros, message, suffix, rate), rate, out);
 }
 
+// SHA3-256 (FIPS 202, section 6.1).
 pub fn sha3_256(message: &[u8]) -> [u8; 32]
     ensures { λ r. ⌜ r ≡ sha3-256 (now (message .entry)) ⌝ }
 {
@@ -182,14 +183,14 @@ pub fn sha3_256(message: &[u8]) -> [u8; 32]
     digest
 }
 
-// SHAKE128 fills the lent slice, which may be empty.
+// SHAKE128 (FIPS 202, section 6.2). It fills the lent slice, which may be empty.
 pub fn shake128(message: &[u8], out: &mut [u8])
     ensures { λ _. ⌜ now (out .exit) ≡ shake128 (now (message .entry)) (length (now (out .entry))) ⌝ }
 {
     hash_into(message, 0x1F, 168, out);
 }
 
-// SHAKE256 fills the lent slice, which may be empty.
+// SHAKE256 (FIPS 202, section 6.2). It fills the lent slice, which may be empty.
 pub fn shake256(message: &[u8], out: &mut [u8])
     ensures { λ _. ⌜ now (out .exit) ≡ shake256 (now (message .entry)) (length (now (out .entry))) ⌝ }
 {

@@ -99,7 +99,8 @@ pub fn of_open(key: usize, rate: u16, tag: u16) -> u8
     of_settings(bad_rate(rate), key, tag as usize)
 }
 
-// A session's own rows, where its user says whether its rate and its tag length are bad: a bundle takes one of each.
+// The rows of a session itself. The caller says whether the rate and the tag length are ones it takes: a wrap takes every good one, and a
+// bundle only its own.
 pub fn of_session(s: Session, rate: bool, tag: bool) -> u8
     ensures { λ r. ⌜ r ≡ first (rowsOf (desk .ceiling) s rate tag) ⌝ }
 {

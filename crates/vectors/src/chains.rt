@@ -1,6 +1,6 @@
-// The Monte Carlo files, by the rules of NIST's SHA3VS: each case is the last of a thousand hashes, and each hash takes its
-// message from the output before. For SHA3-256 the message is the whole digest. For SHAKE it is the first 16 bytes, zeros
-// past a shorter output, and the last two bytes choose the length of the next output. The first output has the most bytes.
+// The Monte Carlo files, by the rules of NIST's SHA3VS: a case is the last output of a chain of a thousand hashes, each of which
+// hashes the output before it. For SHA3-256 the message is the whole digest. For SHAKE it is the first 16 bytes of the output, filled up with
+// zeros if that is shorter, and the last two bytes of an output choose how long the next one is. The chain's first output has the most bytes.
 ghost use mathlib.Core.Path.{_≡_};
 ghost use Prim.Native.Nat.{_+_, _*_, _≤_};
 ghost use Rattle.vectors.specs.Bounds.{Chain, Tallied};
@@ -18,7 +18,7 @@ struct Lengths {
     output: usize,
 }
 
-// One output in the front of 256 zeros, its length, and the length of the next.
+// A link of the chain: one output, at the front of 256 bytes of zeros; how long it is, and how long the next one will be.
 struct Link {
     output: [u8; 256],
     length: usize,

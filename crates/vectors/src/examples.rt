@@ -13,8 +13,8 @@ fn known_digest() -> [u8; 32] {
     digest
 }
 
-// SHA3-256 of 135 bytes is what their one block gives that is padded by hand, for suffix and last bit meet in byte 135;
-// and both are the digest that others give.
+// A message of 135 bytes leaves one byte of its block, in which the suffix 0x06 and the last bit 0x80 meet: 0x86. The block is padded so by
+// hand and absorbed, and both that and the hash call must give the digest that other programs give.
 fn ends_in_0x86() -> bool {
     let message = [0x41u8; 135];
     let mut block = [0x41u8; 136];

@@ -2,13 +2,13 @@
 ghost use Prim.Native.Nat.{_≤_};
 ghost use Rattle.vectors.specs.Bounds.{Part};
 
-// The part of the buffer that is read and not yet handed out.
+// Which part of the buffer holds bytes that were read from the file and not yet handed out.
 pub struct Unread {
     pub start: usize,
     pub end: usize,
 }
 
-// A line of the buffer without its end, which is a newline with or without a return before it, and what is unread after it.
+// Where a line stands in the buffer, without the newline that ends it (or the return and newline), and what is still unread behind it.
 pub struct Line {
     pub is_there: bool,
     pub start: usize,
@@ -69,7 +69,7 @@ fn first(buffer: &[u8], unread: Unread) -> Line
     }
 }
 
-// Where a line ends whose newline is at `at`: before a return.
+// Where the text of a line ends whose newline is at `at`: before the return, if there is one.
 fn without_return(buffer: &[u8], start: usize, at: usize) -> usize
     requires { ⌜ Part start at (now buffer) ⌝ }
     ensures { λ r. ⌜ (start ≤ r) × (r ≤ at) ⌝ }
@@ -82,7 +82,7 @@ fn without_return(buffer: &[u8], start: usize, at: usize) -> usize
     at
 }
 
-// The next line of the file. There is none at its end, and none that the whole buffer does not hold.
+// The next line of the file. There is none at the end of the file, and none where a line is longer than the buffer.
 pub fn next(fd: i32, buffer: &mut [u8], unread: Unread) -> Line
     requires { ⌜ Part (unread .start) (unread .end) (now buffer) ⌝ }
     ensures { λ r. ⌜ Part (r .start) (r .end) (now (buffer .exit)) × Part (r .rest .start) (r .rest .end) (now (buffer .exit)) ⌝ }
