@@ -18,8 +18,8 @@ use Rattle.bundle.specs.declared.Reply.{Reply}
 use Rattle.image.specs.Image.{imageLength, imageOf, sessionOf}
 use Rattle.image.specs.Calls.{Seen, seen}
 use Rattle.probe.specs.Buffers.{sized}
-use Rattle.probe.specs.Sessions.{ofSession, runningWraps, runningUnwraps}
-use Rattle.probe.specs.Bundles.{packedAnswer, ofBundle, opensOver, startsBundle, addsEntry}
+use Rattle.probe.specs.Sessions.{ofSession}
+use Rattle.probe.specs.Bundles.{packedAnswer, ofBundle}
 
 module _ (n : ℕ) (b o : List ℕ) where
   pub other-length : (v : Seen) → (length b ≡ n → ⊥) → seen 6 b o ≡ sized n b o v
@@ -37,18 +37,18 @@ module _ (i i′ o o′ : List ℕ) (s : Session) (h : length i ≡ imageLength)
   over-image shown call w u e f = right-length imageLength i o u (shown (call (sessionOf i))) h (f ∙ ap shown (e ∙ ap call z))
 
   module _ (a : Answer) (f : i′ ≡ imageOf (a .session)) where
-    pub wrapped-is : (k b : List ℕ) → sessions.seen a o′ ≡ wraps desk s k b o → seen (a .number) i′ o′ ≡ runningWraps i k b o
+    pub wrapped-is : (k b : List ℕ) → sessions.seen a o′ ≡ wraps desk s k b o → seen (a .number) i′ o′ ≡ sized imageLength i o (ofSession (wraps desk (sessionOf i) k b o))
     wrapped-is k b e = over-image ofSession (λ r. wraps desk r k b o) (sessions.seen a o′) (seen (a .number) i′ o′) e (rw f)
 
-    pub unwrapped-is : (k c t : List ℕ) → sessions.seen a o′ ≡ unwraps desk s k c t o → seen (a .number) i′ o′ ≡ runningUnwraps i k c t o
+    pub unwrapped-is : (k c t : List ℕ) → sessions.seen a o′ ≡ unwraps desk s k c t o → seen (a .number) i′ o′ ≡ sized imageLength i o (ofSession (unwraps desk (sessionOf i) k c t o))
     unwrapped-is k c t e = over-image ofSession (λ r. unwraps desk r k c t o) (sessions.seen a o′) (seen (a .number) i′ o′) e (rw f)
 
   module _ (a : Reply) (n : ℕ) (f : i′ ≡ imageOf (a .session)) (g : n ≡ packedAnswer a) where
-    pub entry-opened-is : (b : List ℕ) (place : ℕ) → bundles.seen a o′ ≡ opensEntry version1 s b place o → seen n i′ o′ ≡ opensOver i b place o
+    pub entry-opened-is : (b : List ℕ) (place : ℕ) → bundles.seen a o′ ≡ opensEntry version1 s b place o → seen n i′ o′ ≡ sized imageLength i o (ofBundle (opensEntry version1 (sessionOf i) b place o))
     entry-opened-is b place e = over-image ofBundle (λ r. opensEntry version1 r b place o) (bundles.seen a o′) (seen n i′ o′) e (rw (f, g))
 
-    pub started-is : (label : List ℕ) → bundles.seen a o′ ≡ starts version1 s label o → seen n i′ o′ ≡ startsBundle i label o
+    pub started-is : (label : List ℕ) → bundles.seen a o′ ≡ starts version1 s label o → seen n i′ o′ ≡ sized imageLength i o (ofBundle (starts version1 (sessionOf i) label o))
     started-is label e = over-image ofBundle (λ r. starts version1 r label o) (bundles.seen a o′) (seen n i′ o′) e (rw (f, g))
 
-    pub added-is : (k b : List ℕ) → bundles.seen a o′ ≡ adds version1 s k b o → seen n i′ o′ ≡ addsEntry i k b o
+    pub added-is : (k b : List ℕ) → bundles.seen a o′ ≡ adds version1 s k b o → seen n i′ o′ ≡ sized imageLength i o (ofBundle (adds version1 (sessionOf i) k b o))
     added-is k b e = over-image ofBundle (λ r. adds version1 r k b o) (bundles.seen a o′) (seen n i′ o′) e (rw (f, g))

@@ -3,17 +3,13 @@ use Prim.Native.Nat.{ℕ, _+_, _*_, _%_, _^_}
 use mathlib.Core.List.{List, [], _∷_}
 use lib.ListN.{getD}
 use Rattle.refusal.specs.Rows.{by}
-use Rattle.bundle.specs.Format.{version1, entryAt}
 use Rattle.bundle.specs.Answers as bundles
 use Rattle.bundle.specs.Answers.{Told}
-use Rattle.bundle.specs.Opening.{opensEntry}
-use Rattle.bundle.specs.Writing.{starts, adds}
 use Rattle.bundle.specs.declared.Reply.{Reply}
 use Rattle.bundle.specs.declared.Entry.{Entry}
 use Rattle.bundle.specs.declared.Entry.the-variants.{Whole, Short, Large, Past}
-use Rattle.image.specs.Image.{imageLength, fieldBytes, imageOf, sessionOf}
+use Rattle.image.specs.Image.{fieldBytes, imageOf}
 use Rattle.image.specs.Calls.{Seen, seen}
-use Rattle.probe.specs.Buffers.{sized}
 
 -- a number in the low byte, and a place above it, less what does not fit there
 abbrev pub packed : ℕ → ℕ → ℕ
@@ -32,9 +28,6 @@ ofEntry e Short = seen 1 e []
 ofEntry e Large = seen 2 e []
 ofEntry e Past = seen 3 e []
 
-abbrev pub readsEntry : List ℕ → ℕ → List ℕ → Seen
-readsEntry b place e = sized 24 e [] (ofEntry e (entryAt version1 b place))
-
 -- ---- calls on the session that an image holds
 
 -- a refusal's place, or else the next entry's
@@ -43,12 +36,3 @@ packedAnswer a = packed (a .number) (by (a .number) (a .place) (a .next))
 
 abbrev pub ofBundle : bundles.Seen → Seen
 ofBundle w = seen (packedAnswer (w .answer)) (imageOf (w .answer .session)) (w .buffer)
-
-abbrev pub opensOver : List ℕ → List ℕ → ℕ → List ℕ → Seen
-opensOver i b place o = sized imageLength i o (ofBundle (opensEntry version1 (sessionOf i) b place o))
-
-abbrev pub startsBundle : List ℕ → List ℕ → List ℕ → Seen
-startsBundle i label d = sized imageLength i d (ofBundle (starts version1 (sessionOf i) label d))
-
-abbrev pub addsEntry : List ℕ → List ℕ → List ℕ → List ℕ → Seen
-addsEntry i h b d = sized imageLength i d (ofBundle (adds version1 (sessionOf i) h b d))

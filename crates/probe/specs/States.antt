@@ -1,26 +1,19 @@
 -- A state as 200 bytes in block order, and a duplex object as 202: its state and then its rate, big-endian.
 use Prim.Native.Nat.{ℕ}
 use mathlib.Core.List.{List, [], _∷_, _++_}
-use mathlib.Core.Bool.{Bool, not}
-use Rattle.keccak.specs.Rounds.{f1600}
+use mathlib.Core.Bool.{not}
 use Rattle.sponge.specs.Table.{table}
 use Rattle.sponge.specs.Bytes.{bytes, laneOf}
-use Rattle.sponge.specs.Sponge.{zeros, iterate}
 use Rattle.fields.specs.Numbers.{numberAt}
 use Rattle.duplex.specs.Object as object
-use Rattle.duplex.specs.Object.{bit, duplexes}
+use Rattle.duplex.specs.Object.{bit}
 use Rattle.duplex.specs.declared.Duplex.{Duplex}
 use Rattle.image.specs.Image.{fieldBytes}
 use Rattle.image.specs.Calls.{Seen, seen}
-use Rattle.probe.specs.Buffers.{sized}
 
 -- the lanes of a state
 abbrev pub lanesOf : List ℕ → List ℕ
 lanesOf b = table 25 (laneOf 64 b)
-
--- the permutation, many times over
-abbrev pub permutes : List ℕ → ℕ → Seen
-permutes b times = sized 200 b [] (seen 0 (bytes 64 (iterate f1600 (lanesOf b) times)) [])
 
 -- ---- a duplex object
 
@@ -33,12 +26,6 @@ objectOf d = bytes 64 (d .lanes) ++ fieldBytes ((2, d .rate) ∷ [])
 unfoldable pub duplexOf : List ℕ → Duplex
 duplexOf b = record { lanes = lanesOf b; rate = numberAt 2 b 200 }
 
-abbrev pub newObject : ℕ → List ℕ → Seen
-newObject R b = sized objectLength b [] (seen 0 (objectOf (record { lanes = zeros; rate = R })) [])
-
 -- 0 where a call is done and 1 where it is not; the object that it left goes back either way
 abbrev pub ofObject : object.Seen → Seen
 ofObject w = seen (bit (not (w .answer .done))) (objectOf (w .answer .duplex)) (w .out)
-
-abbrev pub duplexesObject : List ℕ → List ℕ → Bool → List ℕ → Seen
-duplexesObject b p frame o = sized objectLength b o (ofObject (duplexes (duplexOf b) p frame o))

@@ -2,10 +2,14 @@
 ghost use mathlib.Core.Path.{_≡_};
 ghost use mathlib.Core.List.{[]};
 ghost use Rattle.spongewrap.specs.Sessions.{cost};
-ghost use Rattle.bundle.specs.Format.{version1, bundleRate};
+ghost use Rattle.bundle.specs.Format.{version1, bundleRate, entryAt};
 ghost use Rattle.bundle.specs.Survey.{surveys};
+ghost use Rattle.bundle.specs.Opening.{opensEntry};
+ghost use Rattle.bundle.specs.Writing.{starts, adds};
+ghost use Rattle.image.specs.Image.{imageLength, sessionOf};
 ghost use Rattle.image.specs.Calls.{seen};
-ghost use Rattle.probe.specs.Bundles.{packed, packedTold, packedAnswer, readsEntry, opensOver, startsBundle, addsEntry};
+ghost use Rattle.probe.specs.Buffers.{sized};
+ghost use Rattle.probe.specs.Bundles.{packed, packedTold, packedAnswer, ofEntry, ofBundle};
 use bundle::Entry;
 use bundle::Reply;
 use bundle::Surveyed;
@@ -46,7 +50,7 @@ pub extern "C" fn probe_survey(bundle: &[u8]) -> u64
 // Answers 0, or where there is none 1, 2 or 3 for its three causes in the order of the survey.
 #[no_mangle]
 pub extern "C" fn probe_entry_at(bundle: &[u8], place: u64, entry: &mut [u8]) -> u8
-    ensures { λ r. ⌜ seen r (now (entry .exit)) [] ≡ readsEntry (now (bundle .entry)) place (now (entry .entry)) ⌝ }
+    ensures { λ r. ⌜ seen r (now (entry .exit)) [] ≡ sized 24 (now (entry .entry)) [] (ofEntry (now (entry .entry)) (entryAt version1 (now (bundle .entry)) place)) ⌝ }
 {
     if entry.len() != ENTRY {
         return refusal::NO_ROOM;
@@ -78,7 +82,7 @@ pub extern "C" fn probe_open_entry(
     place: u64,
     body: &mut [u8],
 ) -> u64
-    ensures { λ r. ⌜ seen r (now (image .exit)) (now (body .exit)) ≡ opensOver (now (image .entry)) (now (bundle .entry)) place (now (body .entry)) ⌝ }
+    ensures { λ r. ⌜ seen r (now (image .exit)) (now (body .exit)) ≡ sized imageLength (now (image .entry)) (now (body .entry)) (ofBundle (opensEntry version1 (sessionOf (now (image .entry))) (now (bundle .entry)) place (now (body .entry)))) ⌝ }
 {
     if image.len() != image::LENGTH {
         return refusal::NO_ROOM as u64;
@@ -92,7 +96,7 @@ pub extern "C" fn probe_open_entry(
 
 #[no_mangle]
 pub extern "C" fn probe_start(image: &mut [u8], label: &[u8], bundle: &mut [u8]) -> u64
-    ensures { λ r. ⌜ seen r (now (image .exit)) (now (bundle .exit)) ≡ startsBundle (now (image .entry)) (now (label .entry)) (now (bundle .entry)) ⌝ }
+    ensures { λ r. ⌜ seen r (now (image .exit)) (now (bundle .exit)) ≡ sized imageLength (now (image .entry)) (now (bundle .entry)) (ofBundle (starts version1 (sessionOf (now (image .entry))) (now (label .entry)) (now (bundle .entry)))) ⌝ }
 {
     if image.len() != image::LENGTH {
         return refusal::NO_ROOM as u64;
@@ -106,7 +110,7 @@ pub extern "C" fn probe_start(image: &mut [u8], label: &[u8], bundle: &mut [u8])
 
 #[no_mangle]
 pub extern "C" fn probe_add(image: &mut [u8], header: &[u8], body: &[u8], bundle: &mut [u8]) -> u64
-    ensures { λ r. ⌜ seen r (now (image .exit)) (now (bundle .exit)) ≡ addsEntry (now (image .entry)) (now (header .entry)) (now (body .entry)) (now (bundle .entry)) ⌝ }
+    ensures { λ r. ⌜ seen r (now (image .exit)) (now (bundle .exit)) ≡ sized imageLength (now (image .entry)) (now (bundle .entry)) (ofBundle (adds version1 (sessionOf (now (image .entry))) (now (header .entry)) (now (body .entry)) (now (bundle .entry)))) ⌝ }
 {
     if image.len() != image::LENGTH {
         return refusal::NO_ROOM as u64;

@@ -3,17 +3,19 @@ ghost use mathlib.Core.Path.{_≡_};
 ghost use mathlib.Core.List.{[]};
 ghost use lib.ListN.{length};
 ghost use Rattle.keccak.specs.Rounds.{f1600};
+ghost use Rattle.sponge.specs.Bytes.{bytes};
 ghost use Rattle.sponge.specs.Sponge.{iterate};
 ghost use Rattle.sponge.specs.Hashes.{shake128, shake256};
 ghost use Rattle.image.specs.Calls.{seen};
-ghost use Rattle.probe.specs.States.{permutes};
+ghost use Rattle.probe.specs.Buffers.{sized};
+ghost use Rattle.probe.specs.States.{lanesOf};
 use crate::STATE;
 use crate::lanes_of;
 
 // A state of 200 bytes in block order, permuted where it stands.
 #[no_mangle]
 pub extern "C" fn probe_permute(state: &mut [u8]) -> u8
-    ensures { λ r. ⌜ seen r (now (state .exit)) [] ≡ permutes (now (state .entry)) 1 ⌝ }
+    ensures { λ r. ⌜ seen r (now (state .exit)) [] ≡ sized 200 (now (state .entry)) [] (seen 0 (bytes 64 (iterate f1600 (lanesOf (now (state .entry))) 1)) []) ⌝ }
 {
     probe_permute_times(state, 1)
 }
@@ -21,7 +23,7 @@ pub extern "C" fn probe_permute(state: &mut [u8]) -> u8
 // The same, many times in one call.
 #[no_mangle]
 pub extern "C" fn probe_permute_times(state: &mut [u8], times: u64) -> u8
-    ensures { λ r. ⌜ seen r (now (state .exit)) [] ≡ permutes (now (state .entry)) times ⌝ }
+    ensures { λ r. ⌜ seen r (now (state .exit)) [] ≡ sized 200 (now (state .entry)) [] (seen 0 (bytes 64 (iterate f1600 (lanesOf (now (state .entry))) times)) []) ⌝ }
 {
     if state.len() != STATE {
         return refusal::NO_ROOM;

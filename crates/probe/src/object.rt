@@ -2,8 +2,11 @@
 ghost use mathlib.Core.Path.{_≡_};
 ghost use mathlib.Core.List.{[]};
 ghost use lib.ListN.{length};
+ghost use Rattle.sponge.specs.Sponge.{zeros};
+ghost use Rattle.duplex.specs.Object.{duplexes};
 ghost use Rattle.image.specs.Calls.{seen};
-ghost use Rattle.probe.specs.States.{objectLength, objectOf, duplexOf, newObject, duplexesObject};
+ghost use Rattle.probe.specs.Buffers.{sized};
+ghost use Rattle.probe.specs.States.{objectLength, objectOf, duplexOf, ofObject};
 use crate::STATE;
 use crate::lanes_of;
 use duplex::Duplex;
@@ -36,7 +39,7 @@ fn put_object(duplex: Duplex, object: &mut [u8])
 // A fresh duplex object at any rate.
 #[no_mangle]
 pub extern "C" fn probe_new_duplex(rate: u16, object: &mut [u8]) -> u8
-    ensures { λ r. ⌜ seen r (now (object .exit)) [] ≡ newObject rate (now (object .entry)) ⌝ }
+    ensures { λ r. ⌜ seen r (now (object .exit)) [] ≡ sized objectLength (now (object .entry)) [] (seen 0 (objectOf (record { lanes = zeros; rate = rate })) []) ⌝ }
 {
     if object.len() != OBJECT {
         return refusal::NO_ROOM;
@@ -53,7 +56,7 @@ pub extern "C" fn probe_duplexing(
     frame: bool,
     out: &mut [u8],
 ) -> u8
-    ensures { λ r. ⌜ seen r (now (object .exit)) (now (out .exit)) ≡ duplexesObject (now (object .entry)) (now (piece .entry)) frame (now (out .entry)) ⌝ }
+    ensures { λ r. ⌜ seen r (now (object .exit)) (now (out .exit)) ≡ sized objectLength (now (object .entry)) (now (out .entry)) (ofObject (duplexes (duplexOf (now (object .entry))) (now (piece .entry)) frame (now (out .entry)))) ⌝ }
 {
     if object.len() != OBJECT {
         return refusal::NO_ROOM;

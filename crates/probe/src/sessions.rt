@@ -1,8 +1,13 @@
 // Sessions that travel as images: what the desks' own exports leave out.
 ghost use mathlib.Core.Path.{_≡_};
 ghost use mathlib.Core.List.{[]};
+ghost use Rattle.spongewrap.specs.Desk.{desk, defaultRate, defaultTag};
+ghost use Rattle.spongewrap.specs.Sessions as sessions;
+ghost use Rattle.spongewrap.specs.Sessions.{opens, wraps, unwraps};
+ghost use Rattle.image.specs.Image.{imageLength, sessionOf};
 ghost use Rattle.image.specs.Calls.{seen, opensImage};
-ghost use Rattle.probe.specs.Sessions.{defaultOpens, runningWraps, runningUnwraps};
+ghost use Rattle.probe.specs.Buffers.{sized};
+ghost use Rattle.probe.specs.Sessions.{ofSession};
 use spongewrap::Session;
 
 // A session opened into an image, at any rate and tag length.
@@ -16,7 +21,7 @@ pub extern "C" fn probe_open(rate: u16, tag: u16, key: &[u8], image: &mut [u8]) 
 // The open that takes no settings. A refused one leaves its session of zeros in the image.
 #[no_mangle]
 pub extern "C" fn probe_default_open(key: &[u8], image: &mut [u8]) -> u8
-    ensures { λ r. ⌜ seen r (now (image .exit)) [] ≡ defaultOpens (now (key .entry)) (now (image .entry)) ⌝ }
+    ensures { λ r. ⌜ seen r (now (image .exit)) [] ≡ sized imageLength (now (image .entry)) [] (ofSession (sessions.seen (opens desk (now (key .entry)) defaultRate defaultTag) [])) ⌝ }
 {
     if image.len() != image::LENGTH {
         return refusal::NO_ROOM;
@@ -35,7 +40,7 @@ pub extern "C" fn probe_running_wrap(
     body: &[u8],
     out: &mut [u8],
 ) -> u8
-    ensures { λ r. ⌜ seen r (now (image .exit)) (now (out .exit)) ≡ runningWraps (now (image .entry)) (now (header .entry)) (now (body .entry)) (now (out .entry)) ⌝ }
+    ensures { λ r. ⌜ seen r (now (image .exit)) (now (out .exit)) ≡ sized imageLength (now (image .entry)) (now (out .entry)) (ofSession (wraps desk (sessionOf (now (image .entry))) (now (header .entry)) (now (body .entry)) (now (out .entry)))) ⌝ }
 {
     if image.len() != image::LENGTH {
         return refusal::NO_ROOM;
@@ -56,7 +61,7 @@ pub extern "C" fn probe_running_unwrap(
     tag: &[u8],
     body: &mut [u8],
 ) -> u8
-    ensures { λ r. ⌜ seen r (now (image .exit)) (now (body .exit)) ≡ runningUnwraps (now (image .entry)) (now (header .entry)) (now (ciphertext .entry)) (now (tag .entry)) (now (body .entry)) ⌝ }
+    ensures { λ r. ⌜ seen r (now (image .exit)) (now (body .exit)) ≡ sized imageLength (now (image .entry)) (now (body .entry)) (ofSession (unwraps desk (sessionOf (now (image .entry))) (now (header .entry)) (now (ciphertext .entry)) (now (tag .entry)) (now (body .entry)))) ⌝ }
 {
     if image.len() != image::LENGTH {
         return refusal::NO_ROOM;

@@ -8,17 +8,18 @@ use Rattle.bundle.specs.declared.Entry.{Entry}
 use Rattle.bundle.specs.declared.Entry.the-variants.{Whole, Short, Large, Past}
 use Rattle.image.specs.Calls.{Seen, seen}
 use Rattle.image.proofs.Image.{storedAt, stored}
-use Rattle.probe.specs.Bundles.{ofEntry, readsEntry}
+use Rattle.probe.specs.Buffers.{sized}
+use Rattle.probe.specs.Bundles.{ofEntry}
 use Rattle.probe.proofs.Buffers.{other-length, right-length}
 use borrow.Author.Needs.{needs}
 use Rattle.probe.proofs.bundles.probe_entry_at.Statement.{statement}
 use Rattle.probe.proofs.bundles.probe_entry_at.Tie as tie
 
 module _ (b e : List ℕ) (place : ℕ) (x : Entry) (l : length e ≡ 24) (f : x ≡ entryAt version1 b place) where
-  entry-is : (t : Entry) (u : Seen) → x ≡ t → u ≡ ofEntry e t → u ≡ readsEntry b place e
+  entry-is : (t : Entry) (u : Seen) → x ≡ t → u ≡ ofEntry e t → u ≡ sized 24 e [] (ofEntry e (entryAt version1 b place))
   entry-is t u g k = right-length 24 e [] u (ofEntry e (entryAt version1 b place)) l (k ∙ ap (ofEntry e) (sym g ∙ f))
 
-  whole-is : (h m n : ℕ) (r : List ℕ) → x ≡ Whole h m n → r ≡ storedAt e 0 ((8, h) ∷ (8, m) ∷ (8, n) ∷ []) → seen 0 r [] ≡ readsEntry b place e
+  whole-is : (h m n : ℕ) (r : List ℕ) → x ≡ Whole h m n → r ≡ storedAt e 0 ((8, h) ∷ (8, m) ∷ (8, n) ∷ []) → seen 0 r [] ≡ sized 24 e [] (ofEntry e (entryAt version1 b place))
   whole-is h m n r g k = entry-is (Whole h m n) (seen 0 r []) g (rw (stored [] e r 0 ((8, h) ∷ (8, m) ∷ (8, n) ∷ []) refl l k))
 
 returns : tie.Need-returns

@@ -2,22 +2,23 @@
 use mathlib.Core.Path.{_≡_}
 use mathlib.Core.List.{List, []}
 use Prim.Native.Nat.{ℕ}
-use lib.ListN.{length}
+use lib.ListN.{length, take}
 use native.Mathlib.Omega.{arith}
-use lib.ListN.{take}
 use lib.Seq.{take-all}
 use Rattle.keccak.specs.Rounds.{f1600}
 use Rattle.sponge.specs.Bytes.{bytes}
 use Rattle.sponge.specs.Sponge.{iterate}
 use Rattle.sponge.proofs.Squeeze.{length-bytes}
 use Rattle.image.specs.Calls.{seen}
-use Rattle.probe.specs.States.{lanesOf, permutes}
+use Rattle.probe.specs.Buffers.{sized}
+use Rattle.probe.specs.States.{lanesOf}
 use Rattle.probe.proofs.Buffers.{other-length, right-length}
 use borrow.Author.Needs.{needs}
 use Rattle.probe.proofs.hashing.probe_permute_times.Statement.{statement}
 use Rattle.probe.proofs.hashing.probe_permute_times.Tie as tie
 
-permuted-is : (b b′ l p : List ℕ) (times : ℕ) → length b ≡ 200 → l ≡ lanesOf b → p ≡ iterate f1600 l times → b′ ≡ take (length b) (bytes 64 p) → seen 0 b′ [] ≡ permutes b times
+permuted-is : (b b′ l p : List ℕ) (times : ℕ) → length b ≡ 200 → l ≡ lanesOf b → p ≡ iterate f1600 l times → b′ ≡ take (length b) (bytes 64 p)
+    → seen 0 b′ [] ≡ sized 200 b [] (seen 0 (bytes 64 (iterate f1600 (lanesOf b) times)) [])
 permuted-is b b′ l p times h e f g =
     right-length 200 b [] (seen 0 b′ []) _ h (rw (g, take-all (length b) (bytes 64 p) (omega (arith, length-bytes 64 p)), f, e))
 

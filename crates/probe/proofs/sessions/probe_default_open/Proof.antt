@@ -4,18 +4,20 @@ use mathlib.Core.List.{List, []}
 use Prim.Native.Nat.{ℕ}
 use lib.ListN.{length}
 use Rattle.spongewrap.specs.Desk.{desk, defaultRate, defaultTag}
+use Rattle.spongewrap.specs.Sessions as sessions
 use Rattle.spongewrap.specs.Sessions.{opens}
 use Rattle.spongewrap.specs.declared.Answer.{Answer}
 use Rattle.image.specs.Image.{imageLength, imageOf}
 use Rattle.image.specs.Calls.{seen}
-use Rattle.probe.specs.Sessions.{defaultOpens}
+use Rattle.probe.specs.Buffers.{sized}
+use Rattle.probe.specs.Sessions.{ofSession}
 use Rattle.probe.proofs.Buffers.{other-length, right-length}
 use borrow.Author.Needs.{needs}
 use Rattle.probe.proofs.sessions.probe_default_open.Statement.{statement}
 use Rattle.probe.proofs.sessions.probe_default_open.Tie as tie
 
 default-opened-is : (key i i′ : List ℕ) (a : Answer) → length i ≡ imageLength → a ≡ opens desk key defaultRate defaultTag → i′ ≡ imageOf (a .session)
-    → seen (a .number) i′ [] ≡ defaultOpens key i
+    → seen (a .number) i′ [] ≡ sized imageLength i [] (ofSession (sessions.seen (opens desk key defaultRate defaultTag) []))
 default-opened-is key i i′ a h e f = right-length imageLength i [] (seen (a .number) i′ []) _ h (rw (f, e))
 
 returns : tie.Need-returns
