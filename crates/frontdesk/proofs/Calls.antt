@@ -5,7 +5,7 @@ use mathlib.Core.Path.{_≡_, refl, sym, ap, _∙_}
 use mathlib.Core.List.{List, []}
 use mathlib.Core.Bool.{Bool, true, false}
 use lib.ListN.{length, take, drop, getD}
-use Rattle.refusal.specs.Rows.{by, pick}
+use Rattle.refusal.specs.Rows.{by}
 use Rattle.refusal.proofs.Rows.{kept, made, taken, passed}
 use Rattle.compare.specs.Same.{same}
 use Rattle.spongewrap.specs.Desk.{desk}
@@ -88,6 +88,9 @@ unfolding opensPair
 pair-opened s h o x n e f g =
     let z : e - n ≡ 16 = omega arith in
     ap (λ (u : Seen). u .answer .session) (rw z at g)
+
+pub pair-sealed : (s : Session) (h b o : List ℕ) (a : Answer) → seen a o ≡ wraps desk s h b dots → a .session ≡ wraps desk s h b dots .answer .session
+pair-sealed s h b o a e = ap (λ (u : Seen). u .answer .session) e
 
 pub pair-passed : (from to : Session) (h b o : List ℕ) (a : Answer) {r : Session} → seen a o ≡ wraps desk from h b dots → r ≡ opensPair to h (length b) o
     → r ≡ opensPair to h (length b) (sealedPair from h b)

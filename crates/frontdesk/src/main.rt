@@ -43,6 +43,9 @@ fn main() {
     let bytes = office::bundle_in(&buffer);
     keep(bytes);
     let entries = desk::survey(bytes);
+    if entries == 0 {
+        return;
+    }
     let opened = desk::open(key, label, bytes, entries);
     desk::refuse(key, buffer);
     exchange::by_turns(opened, four.session);

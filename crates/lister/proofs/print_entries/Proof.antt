@@ -3,6 +3,7 @@ use Prim.Native.Nat.{_≤_, _-_}
 use mathlib.Core.Path.{sym, _∙_}
 use native.Mathlib.Omega.{arith}
 use lib.ListN.{length}
+use Rattle.bundle.specs.Format.{version1, WholeAt}
 use Rattle.bundle.proofs.Entries.{whole-at}
 use borrow.Author.Needs.{needs}
 use Rattle.lister.proofs.print_entries.Statement.{statement}
@@ -14,20 +15,12 @@ Inv-loop bytes entries place₀ k₀ sum₀ place k sum = (k ≤ place) × (sum 
 abbrev μ-loop : tie.MeasureT-loop
 μ-loop bytes entries place₀ k₀ sum₀ place k sum = length bytes - place
 
-add-sum : tie.Need-add-sum Inv-loop μ-loop
-add-sum c =
-    let w = whole-at _ _ _ _ _ _ (sym (c .before .before .before .before .before .entry-at .ensures) ∙ c .before .before .before .entry .given .1) in
-    omega arith
-
-loop-less : tie.Need-loop-less Inv-loop μ-loop
-loop-less c =
-    let w = whole-at _ _ _ _ _ _ (sym (c .before .before .before .before .before .entry-at .ensures) ∙ c .before .before .before .entry .given .1) in
-    omega arith
-
-loop-again : tie.Need-loop-again Inv-loop μ-loop
-loop-again c =
-    let w = whole-at _ _ _ _ _ _ (sym (c .before .before .before .before .before .entry-at .ensures) ∙ c .before .before .before .entry .given .1) in
-    (omega arith, omega arith)
+-- the entry at a turn's place
+whole : (c : tie.After-print-entry Inv-loop μ-loop)
+    → let t = c .before .before .before .before .before .before .before in
+    let e = c .before .before .before .entry .given .0 in
+    WholeAt version1 (t .before .before .before .args .bytes .now) (t .loop .place) (e .0) (e .1 .0) (e .1 .1 .0)
+whole c = whole-at _ _ _ _ _ _ (sym (c .before .before .before .before .before .entry-at .ensures) ∙ c .before .before .before .entry .given .1)
 
 pub print-entries-spec : {M : Type 1} → statement M
 print-entries-spec =
@@ -42,9 +35,9 @@ print-entries-spec =
     (λ c. search needs)
     (λ c κs. search needs)
     (λ c κs. search needs)
-    add-sum
+    (λ c. omega (arith, whole c))
     (λ c. search needs)
-    loop-less
-    loop-again
+    (λ c. omega (arith, whole c))
+    (λ c. (omega (arith, whole c), omega (arith, whole c)))
     (λ c κs. search needs)
     (λ c. search needs))

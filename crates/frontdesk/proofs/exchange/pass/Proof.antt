@@ -1,15 +1,13 @@
 -- What the one side sealed is what the other opens.
-use mathlib.Core.Path.{ap}
 use borrow.Author.Needs.{needs}
-use Rattle.spongewrap.specs.Sessions.{Seen}
-use Rattle.frontdesk.proofs.Calls.{pair-passed}
+use Rattle.frontdesk.proofs.Calls.{pair-sealed, pair-passed}
 use Rattle.frontdesk.proofs.exchange.pass.Statement.{statement}
 use Rattle.frontdesk.proofs.exchange.pass.Tie as tie
 
 returns : tie.Need-returns
 returns c =
     let e = c .before .before .before .before .before .before .before .wrap-lent .ensures in
-    (ap (λ (u : Seen). u .answer .session) e, pair-passed _ _ _ _ _ _ e (c .«open» .ensures))
+    (pair-sealed _ _ _ _ _ e, pair-passed _ _ _ _ _ _ e (c .«open» .ensures))
 
 pub pass-spec : {M : Type 1} → statement M
 pass-spec =
