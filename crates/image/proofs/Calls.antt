@@ -1,14 +1,14 @@
 -- A call over an image by its outcome: an image of another length, or the session's own call, settled.
 use mathlib.Core.Path.{_≡_, refl, sym, ap, _∙_}
 use mathlib.Core.List.{List, [], _++_}
-use mathlib.Core.Bool.{Bool, true, false}
+use mathlib.Core.Bool.{Bool, true, false, not}
 use Prim.Native.Nat.{ℕ, _≤_}
 use native.Mathlib.Omega.{arith}
 use lib.Dec.{eqb}
 use lib.ListN.{length, take, drop}
-use borrow.Author.Tests.{eq-eqb, ne-eqb}
-use Rattle.refusal.specs.Rows.{by}
-use Rattle.refusal.proofs.Rows.{kept}
+use Rattle.refusal.specs.Rows.{pick, by}
+use Rattle.refusal.proofs.Rows.{taken, passed, kept}
+use Rattle.refusal.proofs.Tests.{other, alike}
 use Rattle.spongewrap.specs.Desk.{desk}
 use Rattle.spongewrap.specs.Sessions as sessions
 use Rattle.spongewrap.specs.Sessions.{opens, wraps, unwraps}
@@ -16,19 +16,20 @@ use Rattle.spongewrap.specs.declared.Answer.{Answer}
 use Rattle.spongewrap.specs.declared.Session.{Session}
 use Rattle.spongewrap.proofs.Theorems as theorems
 use Rattle.image.specs.Image.{imageLength, imageOf, sessionOf}
-use Rattle.image.specs.Calls.{Seen, seen, overImage, whole, opensImage, wrapsImage, unwrapsImage}
+use Rattle.image.specs.Calls.{Seen, seen, sized, overImage, opensImage, wrapsImage, unwrapsImage}
 
 -- ---- for the proofs of the calls
 
-module _ (i o : List ℕ) (w : sessions.Seen) where
-  pub other-length : (length i ≡ imageLength → ⊥) → seen 6 i o ≡ whole (eqb (length i) imageLength) i o w
-  unfolding whole
-  other-length h = rw (ne-eqb (length i) imageLength h)
+module _ (n : ℕ) (b o : List ℕ) where
+  pub other-length : (v : Seen) → (length b ≡ n → ⊥) → seen 6 b o ≡ sized n b o v
+  other-length v h = taken (seen 6 b o) v (other (length b) n h)
 
-  called : length i ≡ imageLength → (a : Answer) (o′ : List ℕ) → sessions.seen a o′ ≡ w → (n : ℕ) (i′ : List ℕ)
-      → n ≡ a .number → i′ ≡ by (a .number) i (imageOf (a .session)) → seen n i′ o′ ≡ whole (eqb (length i) imageLength) i o w
-  unfolding whole
-  called h a o′ e n i′ f g = rw (eq-eqb (length i) imageLength h, ← e, f, g)
+  pub right-length : (u v : Seen) → length b ≡ n → u ≡ v → u ≡ sized n b o v
+  right-length u v h e = passed (seen 6 b o) (alike (length b) n h) e
+
+called : (i o : List ℕ) (w : sessions.Seen) → length i ≡ imageLength → (a : Answer) (o′ : List ℕ) → sessions.seen a o′ ≡ w → (n : ℕ) (i′ : List ℕ)
+    → n ≡ a .number → i′ ≡ by (a .number) i (imageOf (a .session)) → seen n i′ o′ ≡ sized imageLength i o (overImage i w)
+called i o w h a o′ e n i′ f g = right-length imageLength i o (seen n i′ o′) (overImage i w) h (rw (← e, f, g))
 
 pub opened-is : (i i′ : List ℕ) (n : ℕ) (a : Answer) (key : List ℕ) (R t : ℕ) → length i ≡ imageLength → a ≡ opens desk key R t
     → (n ≡ a .number) × (i′ ≡ by (a .number) i (imageOf (a .session))) → seen n i′ [] ≡ opensImage key R t i
@@ -51,48 +52,51 @@ pub record Kept (i o : List ℕ) (v : Seen) : Type 0 where
   pub image : v .image ≡ i
   pub out : v .out ≡ o
 
-whole-kept : (t : Bool) (i o : List ℕ) (w : sessions.Seen) → ((w .answer .number ≡ 0 → ⊥) → w .out ≡ o) → (whole t i o w .number ≡ 0 → ⊥) → Kept i o (whole t i o w)
-unfolding whole
-whole-kept false i o w k d = record { image = refl; out = refl }
-whole-kept true i o w k d = record { image = kept (w .answer .number) i (imageOf (w .answer .session)) d; out = k d }
+sized-kept : (t : Bool) (i o : List ℕ) (w : sessions.Seen) → ((w .answer .number ≡ 0 → ⊥) → w .out ≡ o) → (pick t (seen 6 i o) (overImage i w) .number ≡ 0 → ⊥)
+    → Kept i o (pick t (seen 6 i o) (overImage i w))
+unfolding pick
+sized-kept true i o w k d = record { image = refl; out = refl }
+sized-kept false i o w k d = record { image = kept (w .answer .number) i (imageOf (w .answer .session)) d; out = k d }
 
 pub open-kept : (key : List ℕ) (R t : ℕ) (i : List ℕ) → (opensImage key R t i .number ≡ 0 → ⊥) → Kept i [] (opensImage key R t i)
 unfolding opensImage
-open-kept key R t i d = whole-kept _ i [] _ (λ _. refl) d
+open-kept key R t i d = sized-kept _ i [] _ (λ _. refl) d
 
 pub wrap-kept : (i h b o : List ℕ) → (wrapsImage i h b o .number ≡ 0 → ⊥) → Kept i o (wrapsImage i h b o)
 unfolding wrapsImage
-wrap-kept i h b o d = whole-kept _ i o _ (λ e. theorems.wrap-kept desk (sessionOf i) h b o e .out) d
+wrap-kept i h b o d = sized-kept _ i o _ (λ e. theorems.wrap-kept desk (sessionOf i) h b o e .out) d
 
 pub unwrap-kept : (i h c t o : List ℕ) → (unwrapsImage i h c t o .number ≡ 0 → ⊥) → Kept i o (unwrapsImage i h c t o)
 unfolding unwrapsImage
-unwrap-kept i h c t o d = whole-kept _ i o _ (λ e. theorems.unwrap-kept desk (sessionOf i) h c t o e .out) d
+unwrap-kept i h c t o d = sized-kept _ i o _ (λ e. theorems.unwrap-kept desk (sessionOf i) h c t o e .out) d
 
 -- ---- two calls on one image
 
 -- All refusals numbered 8 on one image and one lent output are the same, whatever was handed over.
 pub eights-alike : (i o h c t h′ c′ t′ : List ℕ) → unwrapsImage i h c t o .number ≡ 8 → unwrapsImage i h′ c′ t′ o .number ≡ 8
     → unwrapsImage i h c t o ≡ unwrapsImage i h′ c′ t′ o
-unfolding unwrapsImage whole
-eights-alike i o h c t h′ c′ t′ = go (eqb (length i) imageLength)
+unfolding unwrapsImage pick
+eights-alike i o h c t h′ c′ t′ = go (not (eqb (length i) imageLength))
   where
-    go : (y : Bool) → whole y i o (unwraps desk (sessionOf i) h c t o) .number ≡ 8 → whole y i o (unwraps desk (sessionOf i) h′ c′ t′ o) .number ≡ 8
-        → whole y i o (unwraps desk (sessionOf i) h c t o) ≡ whole y i o (unwraps desk (sessionOf i) h′ c′ t′ o)
-    go false e f = refl
-    go true e f = ap (overImage i) (theorems.eights-alike desk (sessionOf i) o h c t h′ c′ t′ e f)
+    over : Bool → List ℕ → List ℕ → List ℕ → Seen
+    over y h c t = pick y (seen 6 i o) (overImage i (unwraps desk (sessionOf i) h c t o))
+
+    go : (y : Bool) → over y h c t .number ≡ 8 → over y h′ c′ t′ .number ≡ 8 → over y h c t ≡ over y h′ c′ t′
+    go true e f = refl
+    go false e f = ap (overImage i) (theorems.eights-alike desk (sessionOf i) o h c t h′ c′ t′ e f)
 
 -- an accepted call was handed a whole image
-pub was-whole : (t : Bool) (i o : List ℕ) (w : sessions.Seen) → whole t i o w .number ≡ 0 → t ≡ true
-unfolding whole
-was-whole false i o w e = absurd (omega arith)
-was-whole true i o w e = refl
+pub was-whole : (t : Bool) (i o : List ℕ) (v : Seen) → pick t (seen 6 i o) v .number ≡ 0 → t ≡ false
+unfolding pick
+was-whole true i o v e = absurd (omega arith)
+was-whole false i o v e = refl
 
 -- What was wrapped over an image comes back exactly over the same image, and leaves the same image.
 pub wrap-unwrap : (i h b o o′ : List ℕ) → wrapsImage i h b o .number ≡ 0 → length b ≤ length o′
     → unwrapsImage i h (take (length b) (wrapsImage i h b o .out)) (take (sessionOf i .tag) (drop (length b) (wrapsImage i h b o .out))) o′
     ≡ seen 0 (wrapsImage i h b o .image) (b ++ drop (length b) o′)
-unfolding wrapsImage unwrapsImage whole by
+unfolding wrapsImage unwrapsImage pick by
 wrap-unwrap i h b o o′ e l =
-    let q = was-whole (eqb (length i) imageLength) i o (wraps desk (sessionOf i) h b o) e in
+    let q = was-whole (not (eqb (length i) imageLength)) i o (overImage i (wraps desk (sessionOf i) h b o)) e in
     let n = rw q at e in
     rw (q, theorems.wrap-unwrap desk (sessionOf i) h b o n o′ l, n)

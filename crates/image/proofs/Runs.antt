@@ -3,11 +3,12 @@ use mathlib.Core.Path.{_≡_, refl, sym, ap, _∙_}
 use mathlib.Core.List.{List, [], _∷_, _++_, map}
 use Prim.Native.Nat.{ℕ, zero, suc, _≤_}
 use native.Mathlib.Omega.{arith}
+use mathlib.Core.Bool.{not}
 use lib.Dec.{eqb}
 use lib.ListN.{length, take, drop}
-use borrow.Author.Tests.{eq-eqb}
-use Rattle.refusal.specs.Rows.{by}
+use Rattle.refusal.specs.Rows.{pick, by}
 use Rattle.refusal.proofs.Rows.{made}
+use Rattle.refusal.proofs.Tests.{alike}
 use Rattle.spongewrap.specs.Desk.{desk}
 use Rattle.spongewrap.specs.Sessions as sessions
 use Rattle.spongewrap.specs.Sessions.{opens, wraps, unwraps}
@@ -18,7 +19,7 @@ use Rattle.spongewrap.proofs.Theorems.{wrap-kept, unwrap-kept}
 use Rattle.spongewrap.proofs.Histories.{history-tells}
 use Rattle.spongewrap.proofs.ComesBack.{same-history}
 use Rattle.image.specs.Image.{imageLength, imageOf, sessionOf}
-use Rattle.image.specs.Calls.{Seen, seen, whole, opensImage, wrapsImage, unwrapsImage}
+use Rattle.image.specs.Calls.{Seen, seen, sized, overImage, opensImage, wrapsImage, unwrapsImage}
 use Rattle.image.proofs.Bounds.{Below}
 use Rattle.image.proofs.Image.{Held, length-image, session-image}
 use Rattle.image.proofs.Calls.{was-whole, wrap-unwrap}
@@ -59,10 +60,10 @@ shown w = seen (w .answer .number) (imageOf (w .answer .session)) (w .out)
 
 module _ (s : Session) (e : Held s) where
   over-image : (o : List ℕ) (call : Session → sessions.Seen) → ((call s .answer .number ≡ 0 → ⊥) → call s .answer .session ≡ s)
-      → whole (eqb (length (imageOf s)) imageLength) (imageOf s) o (call (sessionOf (imageOf s))) ≡ shown (call s)
-  unfolding whole
+      → sized imageLength (imageOf s) o (overImage (imageOf s) (call (sessionOf (imageOf s)))) ≡ shown (call s)
+  unfolding pick
   over-image o call k =
-      rw (eq-eqb (length (imageOf s)) imageLength (length-image s), session-image s e, kept-image (call s .answer .number) s (call s .answer .session) k)
+      rw (alike (length (imageOf s)) imageLength (length-image s), session-image s e, kept-image (call s .answer .number) s (call s .answer .session) k)
 
   call-image : (c : Call) → callsImage (imageOf s) c ≡ shown (answered desk s c)
   unfolding callsImage answered wrapsImage unwrapsImage
@@ -103,9 +104,9 @@ module _ (key : List ℕ) (R t : ℕ) where
   module _ (k : Below 256 key) where
     module _ (i : List ℕ) (e : opensImage key R t i .number ≡ 0) where
       opened : (opens desk key R t .number ≡ 0) × (opensImage key R t i .image ≡ imageOf begun)
-      unfolding opensImage whole
+      unfolding opensImage pick
       opened =
-          let q = was-whole (eqb (length i) imageLength) i [] (sessions.seen (opens desk key R t) []) e in
+          let q = was-whole (not (eqb (length i) imageLength)) i [] (overImage i (sessions.seen (opens desk key R t) [])) e in
           let n = rw q at e in
           (n, rw q (made (opens desk key R t .number) i (imageOf begun) n))
 

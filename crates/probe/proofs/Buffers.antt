@@ -1,10 +1,8 @@
--- A call over a buffer by its outcome: a buffer of another length, or what the call gives.
+-- A call over an image of the right length: the session that it left is laid over the image, and it answers as the session's own does.
 use Prim.Native.Nat.{ℕ}
 use mathlib.Core.Path.{_≡_, ap, _∙_}
 use mathlib.Core.List.{List}
 use lib.ListN.{length}
-use Rattle.refusal.proofs.Rows.{taken, passed}
-use Rattle.refusal.proofs.Tests.{other, alike}
 use Rattle.spongewrap.specs.Desk.{desk}
 use Rattle.spongewrap.specs.Sessions as sessions
 use Rattle.spongewrap.specs.Sessions.{wraps, unwraps}
@@ -16,19 +14,10 @@ use Rattle.bundle.specs.Opening.{opensEntry}
 use Rattle.bundle.specs.Writing.{starts, adds}
 use Rattle.bundle.specs.declared.Reply.{Reply}
 use Rattle.image.specs.Image.{imageLength, imageOf, sessionOf}
-use Rattle.image.specs.Calls.{Seen, seen}
-use Rattle.probe.specs.Buffers.{sized}
+use Rattle.image.specs.Calls.{Seen, seen, sized}
+use Rattle.image.proofs.Calls.{right-length}
 use Rattle.probe.specs.Sessions.{ofSession}
 use Rattle.probe.specs.Bundles.{packedAnswer, ofBundle}
-
-module _ (n : ℕ) (b o : List ℕ) where
-  pub other-length : (v : Seen) → (length b ≡ n → ⊥) → seen 6 b o ≡ sized n b o v
-  other-length v h = taken (seen 6 b o) v (other (length b) n h)
-
-  pub right-length : (u v : Seen) → length b ≡ n → u ≡ v → u ≡ sized n b o v
-  right-length u v h e = passed (seen 6 b o) (alike (length b) n h) e
-
--- ---- over an image
 
 module _ (i i′ o o′ : List ℕ) (s : Session) (h : length i ≡ imageLength) (z : s ≡ sessionOf i) where
   -- w is what came of a call on the session that it holds, and u what is seen of that

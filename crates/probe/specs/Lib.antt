@@ -1,4 +1,3 @@
-pub mod Buffers
 pub mod States
 pub mod Sessions
 pub mod Bundles

@@ -5,8 +5,7 @@ ghost use Rattle.spongewrap.specs.Desk.{desk, defaultRate, defaultTag};
 ghost use Rattle.spongewrap.specs.Sessions as sessions;
 ghost use Rattle.spongewrap.specs.Sessions.{opens, wraps, unwraps};
 ghost use Rattle.image.specs.Image.{imageLength, sessionOf};
-ghost use Rattle.image.specs.Calls.{seen, opensImage};
-ghost use Rattle.probe.specs.Buffers.{sized};
+ghost use Rattle.image.specs.Calls.{seen, sized, opensImage};
 ghost use Rattle.probe.specs.Sessions.{ofSession};
 use spongewrap::Session;
 

@@ -6,11 +6,10 @@ use lib.ListN.{length}
 use Rattle.bundle.specs.Format.{version1, entryAt}
 use Rattle.bundle.specs.declared.Entry.{Entry}
 use Rattle.bundle.specs.declared.Entry.the-variants.{Whole, Short, Large, Past}
-use Rattle.image.specs.Calls.{Seen, seen}
+use Rattle.image.specs.Calls.{Seen, seen, sized}
 use Rattle.image.proofs.Image.{storedAt, stored}
-use Rattle.probe.specs.Buffers.{sized}
 use Rattle.probe.specs.Bundles.{ofEntry}
-use Rattle.probe.proofs.Buffers.{other-length, right-length}
+use Rattle.image.proofs.Calls.{other-length, right-length}
 use borrow.Author.Needs.{needs}
 use Rattle.probe.proofs.bundles.probe_entry_at.Statement.{statement}
 use Rattle.probe.proofs.bundles.probe_entry_at.Tie as tie

@@ -9,10 +9,9 @@ use Rattle.keccak.specs.Rounds.{f1600}
 use Rattle.sponge.specs.Bytes.{bytes}
 use Rattle.sponge.specs.Sponge.{iterate}
 use Rattle.sponge.proofs.Squeeze.{length-bytes}
-use Rattle.image.specs.Calls.{seen}
-use Rattle.probe.specs.Buffers.{sized}
+use Rattle.image.specs.Calls.{seen, sized}
 use Rattle.probe.specs.States.{lanesOf}
-use Rattle.probe.proofs.Buffers.{other-length, right-length}
+use Rattle.image.proofs.Calls.{other-length, right-length}
 use borrow.Author.Needs.{needs}
 use Rattle.probe.proofs.hashing.probe_permute_times.Statement.{statement}
 use Rattle.probe.proofs.hashing.probe_permute_times.Tie as tie

@@ -8,10 +8,9 @@ use Rattle.duplex.specs.Object as object
 use Rattle.duplex.specs.Object.{bit, duplexes}
 use Rattle.duplex.specs.declared.Duplex.{Duplex}
 use Rattle.duplex.specs.declared.Outcome.{Outcome}
-use Rattle.image.specs.Calls.{seen}
-use Rattle.probe.specs.Buffers.{sized}
+use Rattle.image.specs.Calls.{seen, sized}
 use Rattle.probe.specs.States.{objectLength, objectOf, duplexOf, ofObject}
-use Rattle.probe.proofs.Buffers.{other-length, right-length}
+use Rattle.image.proofs.Calls.{other-length, right-length}
 use borrow.Author.Needs.{needs}
 use Rattle.probe.proofs.object.probe_duplexing.Statement.{statement}
 use Rattle.probe.proofs.object.probe_duplexing.Tie as tie

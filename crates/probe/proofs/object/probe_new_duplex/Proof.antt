@@ -5,10 +5,9 @@ use Prim.Native.Nat.{ℕ}
 use lib.ListN.{length}
 use Rattle.sponge.specs.Sponge.{zeros}
 use Rattle.duplex.specs.declared.Duplex.{Duplex}
-use Rattle.image.specs.Calls.{seen}
-use Rattle.probe.specs.Buffers.{sized}
+use Rattle.image.specs.Calls.{seen, sized}
 use Rattle.probe.specs.States.{objectLength, objectOf}
-use Rattle.probe.proofs.Buffers.{other-length, right-length}
+use Rattle.image.proofs.Calls.{other-length, right-length}
 use borrow.Author.Needs.{needs}
 use Rattle.probe.proofs.object.probe_new_duplex.Statement.{statement}
 use Rattle.probe.proofs.object.probe_new_duplex.Tie as tie

@@ -8,10 +8,9 @@ use Rattle.spongewrap.specs.Sessions as sessions
 use Rattle.spongewrap.specs.Sessions.{opens}
 use Rattle.spongewrap.specs.declared.Answer.{Answer}
 use Rattle.image.specs.Image.{imageLength, imageOf}
-use Rattle.image.specs.Calls.{seen}
-use Rattle.probe.specs.Buffers.{sized}
+use Rattle.image.specs.Calls.{seen, sized}
 use Rattle.probe.specs.Sessions.{ofSession}
-use Rattle.probe.proofs.Buffers.{other-length, right-length}
+use Rattle.image.proofs.Calls.{other-length, right-length}
 use borrow.Author.Needs.{needs}
 use Rattle.probe.proofs.sessions.probe_default_open.Statement.{statement}
 use Rattle.probe.proofs.sessions.probe_default_open.Tie as tie

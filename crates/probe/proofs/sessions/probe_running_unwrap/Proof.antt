@@ -1,5 +1,6 @@
 -- An image of another length is refused; else the session that the call left is laid over it.
-use Rattle.probe.proofs.Buffers.{other-length, unwrapped-is}
+use Rattle.image.proofs.Calls.{other-length}
+use Rattle.probe.proofs.Buffers.{unwrapped-is}
 use borrow.Author.Needs.{needs}
 use Rattle.probe.proofs.sessions.probe_running_unwrap.Statement.{statement}
 use Rattle.probe.proofs.sessions.probe_running_unwrap.Tie as tie
