@@ -2,7 +2,9 @@
 use Prim.Native.Nat.{ℕ, _+_, _≤_}
 use mathlib.Core.Bool.{Bool, true, false}
 use mathlib.Core.List.{List}
+use lib.Dec.{eqb, ltb}
 use lib.ListN.{length}
+use Rattle.refusal.specs.Rows.{pick}
 use Rattle.vectors.specs.declared.pairs.Pair.{Pair}
 use Rattle.vectors.specs.declared.tally.Tally.{Tally}
 
@@ -26,3 +28,12 @@ Chain least n most = (2 ≤ least) × (least ≤ n) × (n ≤ most) × (most ≤
 abbrev pub more : Bool → ℕ → ℕ
 more true n = n + 1
 more false n = n
+
+-- the first that differs: this one where all before agreed
+abbrev pub differing : Bool → Tally → ℕ
+differing true t = t .first
+differing false t = pick (eqb (t .agreed) (t .run)) (t .run) (t .first)
+
+-- a rate or a tag length as an open takes it: 0 where it is too large
+abbrev pub setting : ℕ → ℕ
+setting n = pick (ltb 65535 n) 0 n

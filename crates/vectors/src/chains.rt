@@ -2,8 +2,10 @@
 // hashes the output before it. For SHA3-256 the message is the whole digest. For SHAKE it is the first 16 bytes of the output, filled up with
 // zeros if that is shorter, and the last two bytes of an output choose how long the next one is. The chain's first output has the most bytes.
 ghost use mathlib.Core.Path.{_≡_};
-ghost use Prim.Native.Nat.{_+_, _*_, _≤_};
+ghost use Prim.Native.Nat.{_+_, _-_, _*_, _%_, _≤_};
+ghost use lib.ListN.{replicate};
 ghost use Rattle.vectors.specs.Bounds.{Chain, Tallied};
+ghost use Rattle.vectors.specs.Chains.{chosen, linked, links};
 use crate::hashes;
 use crate::hashes::Hash;
 use crate::lines;
@@ -27,7 +29,9 @@ struct Link {
 
 impl Link {
     // No output, of which no case comes.
-    fn none() -> Link {
+    fn none() -> Link
+        ensures { λ r. ⌜ (r .output ≡ replicate 256 0) × (r .length ≡ 0) × (r .next ≡ 0) ⌝ }
+    {
         Link {
             output: [0u8; 256],
             length: 0,
@@ -51,7 +55,7 @@ fn read(lengths: Lengths, line: &[u8]) -> Lengths {
 // The number from `least` to `most` that `x` chooses.
 fn within(x: usize, least: usize, most: usize) -> usize
     requires { ⌜ (least ≤ most) × (most ≤ 256) ⌝ }
-    ensures { λ r. ⌜ (least ≤ r) × (r ≤ most) ⌝ }
+    ensures { λ r. ⌜ (r ≡ least + x % (most - least + 1)) × (least ≤ r) × (r ≤ most) ⌝ }
 {
     least + x % (most - least + 1)
 }
@@ -66,7 +70,7 @@ fn two_bytes(high: u8, low: u8) -> usize
 // The length of the next output, chosen by the last two bytes of this one.
 fn next_length(output: [u8; 256], length: usize, least: usize, most: usize) -> usize
     requires { ⌜ Chain least length most ⌝ }
-    ensures { λ r. ⌜ Chain least r most ⌝ }
+    ensures { λ r. ⌜ (r ≡ chosen output length least most) × Chain least r most ⌝ }
 {
     within(
         two_bytes(output[length - 2], output[length - 1]),
@@ -78,7 +82,7 @@ fn next_length(output: [u8; 256], length: usize, least: usize, most: usize) -> u
 // One hash more.
 fn linked(link: Link, hash: Hash, least: usize, most: usize) -> Link
     requires { ⌜ Chain least (link .next) most ⌝ }
-    ensures { λ r. ⌜ Chain least (r .next) most ⌝ }
+    ensures { λ r. ⌜ (r ≡ linked hash least most link) × Chain least (r .next) most ⌝ }
 {
     let length = link.next;
     let last = link.output;
@@ -94,6 +98,7 @@ fn linked(link: Link, hash: Hash, least: usize, most: usize) -> Link
 // A thousand hashes more.
 fn thousand(link: Link, hash: Hash, least: usize, most: usize) -> Link
     requires { ⌜ Chain least (link .next) most ⌝ }
+    ensures { λ r. ⌜ r ≡ links hash least most 1000 link ⌝ }
 {
     let mut last = link;
     let mut i: u32 = 0;

@@ -1,4 +1,7 @@
 // The worked examples of document 01 that are run and not proved, a line for each.
+ghost use mathlib.Core.Path.{_≡_};
+ghost use Rattle.spongewrap.specs.Desk.{defaultRate, defaultTag, desk};
+ghost use Rattle.spongewrap.specs.Sessions.{opens};
 use crate::named;
 use crate::tally;
 use spongewrap::Session;
@@ -27,7 +30,9 @@ fn ends_in_0x86() -> bool {
 }
 
 // What an open with a key of n bytes answers.
-fn opened_by(key: &[u8]) -> u8 {
+fn opened_by(key: &[u8]) -> u8
+    ensures { λ r. ⌜ r ≡ opens desk (now (key .entry)) defaultRate defaultTag .number ⌝ }
+{
     let answer = spongewrap::open(key, Session::RATE, Session::TAG);
     answer.number
 }

@@ -1,5 +1,8 @@
 // The functions under test, under one name.
+ghost use mathlib.Core.Path.{_≡_};
 ghost use Prim.Native.Nat.{_≤_};
+ghost use lib.ListN.{take};
+ghost use Rattle.vectors.specs.Chains.{carried, hashed, widened};
 
 // Which function.
 pub enum Hash {
@@ -9,7 +12,9 @@ pub enum Hash {
 }
 
 // A digest in the front of 256 zeros.
-fn widened(digest: [u8; 32]) -> [u8; 256] {
+fn widened(digest: [u8; 32]) -> [u8; 256]
+    ensures { λ r. ⌜ r ≡ widened 32 digest ⌝ }
+{
     let mut out = [0u8; 256];
     bytes::copy(&digest, &mut out);
     out
@@ -18,6 +23,7 @@ fn widened(digest: [u8; 32]) -> [u8; 256] {
 // The hash of a message in the front of 256 zeros: `n` bytes of it, and of SHA3-256 always 32.
 pub fn hashed(hash: Hash, message: &[u8], n: usize) -> [u8; 256]
     requires { ⌜ n ≤ 256 ⌝ }
+    ensures { λ r. ⌜ r ≡ hashed hash (now (message .entry)) n ⌝ }
 {
     let mut out = [0u8; 256];
     match hash {
@@ -36,7 +42,7 @@ pub fn hashed(hash: Hash, message: &[u8], n: usize) -> [u8; 256]
 
 // How many bytes of one output a Monte Carlo chain takes for the next message.
 fn carried(hash: Hash) -> usize
-    ensures { λ r. ⌜ r ≤ 32 ⌝ }
+    ensures { λ r. ⌜ (r ≡ carried hash) × (r ≤ 32) ⌝ }
 {
     match hash {
         Hash::Sha3_256 => 32,
@@ -48,6 +54,7 @@ fn carried(hash: Hash) -> usize
 // The next output of a Monte Carlo chain, `n` bytes of it.
 pub fn chained(hash: Hash, last: [u8; 256], n: usize) -> [u8; 256]
     requires { ⌜ n ≤ 256 ⌝ }
+    ensures { λ r. ⌜ r ≡ hashed hash (take (carried hash) last) n ⌝ }
 {
     let end = carried(hash);
     hashed(hash, &last[0..end], n)

@@ -1,6 +1,8 @@
 // The lines of a file, through a buffer that is refilled.
+ghost use mathlib.Core.Path.{_≡_};
 ghost use Prim.Native.Nat.{_≤_};
 ghost use Rattle.vectors.specs.Bounds.{Part};
+ghost use Rattle.vectors.specs.Spelled.{lineEnd};
 
 // Which part of the buffer holds bytes that were read from the file and not yet handed out.
 pub struct Unread {
@@ -72,7 +74,7 @@ fn first(buffer: &[u8], unread: Unread) -> Line
 // Where the text of a line ends whose newline is at `at`: before the return, if there is one.
 fn without_return(buffer: &[u8], start: usize, at: usize) -> usize
     requires { ⌜ Part start at (now buffer) ⌝ }
-    ensures { λ r. ⌜ (start ≤ r) × (r ≤ at) ⌝ }
+    ensures { λ r. ⌜ (r ≡ lineEnd start at (now (buffer .entry))) × (start ≤ r) × (r ≤ at) ⌝ }
 {
     if start < at {
         if buffer[at - 1] == b'\r' {

@@ -1,6 +1,9 @@
 // The files of single messages: short, long, and of variable output.
+ghost use mathlib.Core.Path.{_≡_};
 ghost use Prim.Native.Nat.{_+_, _≤_};
+ghost use lib.Dec.{eqb};
 ghost use lib.ListN.{length};
+ghost use Rattle.refusal.specs.Rows.{pick};
 ghost use Rattle.vectors.specs.Bounds.{Tallied};
 use crate::hashes;
 use crate::hashes::Hash;
@@ -36,7 +39,7 @@ fn read(case: Case, line: &[u8], message: &mut [u8]) -> Case
 
 // The bits that the files spell for a message of so many: an empty one is spelled as one byte.
 fn spelled(bits: usize) -> usize
-    ensures { λ r. ⌜ bits ≤ r ⌝ }
+    ensures { λ r. ⌜ (r ≡ pick (eqb bits 0) 8 bits) × (bits ≤ r) ⌝ }
 {
     if bits == 0 { 8 } else { bits }
 }

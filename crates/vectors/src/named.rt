@@ -1,34 +1,34 @@
 // The fields of a line: a name, and a number or bytes in hexadecimal digits after it.
 ghost use mathlib.Core.Path.{_≡_};
-ghost use mathlib.Core.Bool.{true};
 ghost use Prim.Native.Nat.{_≤_};
-ghost use lib.ListN.{length, take};
+ghost use lib.ListN.{length};
+ghost use Rattle.vectors.specs.Spelled.{byte, digit, isNamed, numberAfter, numberFrom, value};
 
 // Whether the line starts with the name.
 pub fn is_named(line: &[u8], name: &[u8]) -> bool
-    ensures { λ r. ⌜ (r ≡ true → take (length (now (name .entry))) (now (line .entry)) ≡ now (name .entry)) × (take (length (now (name .entry))) (now (line .entry)) ≡ now (name .entry) → r ≡ true) ⌝ }
+    ensures { λ r. ⌜ r ≡ isNamed (now (line .entry)) (now (name .entry)) ⌝ }
 {
     let n = name.len();
     if line.len() < n {
         return false;
     }
-    check::same(&line[0..n], name)
+    compare::is_same(&line[0..n], name)
 }
 
 // What follows the name; nothing where the line has another.
-fn value<'a>(line: &'a [u8], name: &[u8]) -> &'a [u8] {
-    let n = name.len();
-    if n <= line.len() {
-        if is_named(line, name) {
-            return &line[n..];
-        }
+fn value<'a>(line: &'a [u8], name: &[u8]) -> &'a [u8]
+    ensures { λ r. ⌜ now r ≡ value (now (line .entry)) (now (name .entry)) ⌝ }
+{
+    if !is_named(line, name) {
+        return &line[0..0];
     }
-    &line[0..0]
+    let n = name.len();
+    &line[n..]
 }
 
 // The value of a digit, 16 where the byte is none.
 fn digit(b: u8) -> u8
-    ensures { λ r. ⌜ r ≤ 16 ⌝ }
+    ensures { λ r. ⌜ (r ≡ digit b) × (r ≤ 16) ⌝ }
 {
     match b {
         b'0'..=b'9' => b - b'0',
@@ -38,7 +38,9 @@ fn digit(b: u8) -> u8
 }
 
 // The decimal number that the text starts with. The largest of the files is below a million.
-fn number(text: &[u8]) -> usize {
+fn number(text: &[u8]) -> usize
+    ensures { λ r. ⌜ r ≡ numberFrom 0 (now (text .entry)) ⌝ }
+{
     let mut n: usize = 0;
     let mut i = 0;
     while i < text.len() {
@@ -57,7 +59,7 @@ fn number(text: &[u8]) -> usize {
 
 // The byte that two digits spell, 256 where they spell none.
 fn byte(high: u8, low: u8) -> u16
-    ensures { λ r. ⌜ r ≤ 256 ⌝ }
+    ensures { λ r. ⌜ (r ≡ byte high low) × (r ≤ 256) ⌝ }
 {
     let h = digit(high);
     let l = digit(low);
@@ -95,7 +97,9 @@ fn decode(digits: &[u8], out: &mut [u8]) -> usize
 }
 
 // The number of the named field, or what it was before where the line has another.
-pub fn number_after(line: &[u8], name: &[u8], before: usize) -> usize {
+pub fn number_after(line: &[u8], name: &[u8], before: usize) -> usize
+    ensures { λ r. ⌜ r ≡ numberAfter (now (line .entry)) (now (name .entry)) before ⌝ }
+{
     let text = value(line, name);
     if text.len() == 0 {
         before

@@ -2,8 +2,11 @@
 // compared. A session of the file is one case, which agrees if all of this does.
 ghost use mathlib.Core.Path.{_≡_};
 ghost use Prim.Native.Nat.{_+_, _≤_};
+ghost use lib.Dec.{eqb};
 ghost use lib.ListN.{length};
-ghost use Rattle.vectors.specs.Bounds.{Part, Tallied, Within};
+ghost use Rattle.spongewrap.specs.Desk.{desk};
+ghost use Rattle.spongewrap.specs.Sessions.{opens};
+ghost use Rattle.vectors.specs.Bounds.{Part, Tallied, Within, setting};
 use crate::lines;
 use crate::lines::Unread;
 use crate::named;
@@ -32,7 +35,9 @@ fn stated_after(before: Stated, line: &[u8]) -> Stated {
 }
 
 // A stated rate or tag length; 0, which every open refuses, where it is too large to be one.
-fn setting(n: usize) -> u16 {
+fn setting(n: usize) -> u16
+    ensures { λ r. ⌜ r ≡ setting n ⌝ }
+{
     if 65535 < n {
         return 0;
     }
@@ -40,7 +45,9 @@ fn setting(n: usize) -> u16 {
 }
 
 // A session from a key and settings.
-fn opened(key: &[u8], rate: usize, tag: usize) -> Course {
+fn opened(key: &[u8], rate: usize, tag: usize) -> Course
+    ensures { λ r. ⌜ (r .agrees ≡ eqb (opens desk (now (key .entry)) (setting rate) (setting tag) .number) 0) × (r .session ≡ opens desk (now (key .entry)) (setting rate) (setting tag) .session) ⌝ }
+{
     let answer = spongewrap::open(key, setting(rate), setting(tag));
     let number = answer.number;
     let session = answer.session;

@@ -1,7 +1,8 @@
 // What came of a file's cases, and the line that says so.
 ghost use mathlib.Core.Path.{_≡_};
+ghost use mathlib.Core.Bool.{false};
 ghost use Prim.Native.Nat.{_+_, _≤_, _<_};
-ghost use Rattle.vectors.specs.Bounds.{more};
+ghost use Rattle.vectors.specs.Bounds.{differing, more};
 use libc::STDOUT_FILENO;
 
 // How many cases were run, how many agreed, and which was the first that did not, counted from 0 as NIST's COUNT is.
@@ -14,7 +15,7 @@ pub struct Tally {
 impl Tally {
     // No case yet.
     pub fn none() -> Tally
-        ensures { λ r. ⌜ (r .run ≡ 0) × (r .agreed ≡ 0) ⌝ }
+        ensures { λ r. ⌜ (r .run ≡ 0) × (r .agreed ≡ 0) × (r .first ≡ 0) ⌝ }
     {
         Tally {
             run: 0,
@@ -26,7 +27,7 @@ impl Tally {
     // One more case. It counts as agreeing only where it agrees.
     pub fn counted(self, agrees: bool) -> Tally
         requires { ⌜ (self .agreed ≤ self .run) × (self .run < 65536) ⌝ }
-        ensures { λ r. ⌜ (r .run ≡ self .run + 1) × (r .agreed ≡ more agrees (self .agreed)) × (r .agreed ≤ r .run) ⌝ }
+        ensures { λ r. ⌜ (r .run ≡ self .run + 1) × (r .agreed ≡ more agrees (self .agreed)) × (r .agreed ≤ r .run) × (r .first ≡ differing agrees self) ⌝ }
     {
         if agrees {
             return Tally {
@@ -35,15 +36,21 @@ impl Tally {
                 first: self.first,
             };
         }
-        let mut first = self.first;
-        if self.agreed == self.run {
-            first = self.run;
-        }
         Tally {
             run: self.run + 1,
             agreed: self.agreed,
-            first,
+            first: self.first_differing(),
         }
+    }
+
+    // The first that differs once one more does: that one, where all before agreed.
+    fn first_differing(self) -> u64
+        ensures { λ r. ⌜ r ≡ differing false self ⌝ }
+    {
+        if self.agreed == self.run {
+            return self.run;
+        }
+        self.first
     }
 }
 
