@@ -3,8 +3,7 @@
 use Prim.Native.Nat.{ℕ, _+_, _≤_}
 use native.Mathlib.Omega.{arith}
 use mathlib.Core.Path.{_≡_, refl, sym, ap, _∙_}
-use mathlib.Core.List.{List, [], _∷_, _++_, map}
-use mathlib.Core.Bool.{false}
+use mathlib.Core.List.{List, [], _∷_, map}
 use lib.ListN.{length, getD, replicate, length-replicate}
 use borrow.Author.Tests.{le-ltb}
 use mir.Val.{Fits}
@@ -22,7 +21,7 @@ use Rattle.spongewrap.proofs.Histories.{history-tells}
 use Rattle.bundle.specs.declared.Entry.{Entry}
 use Rattle.bundle.specs.declared.Entry.the-variants.{Whole, Short, Large, Past}
 use Rattle.bundle.specs.Format.{Version, bundleRate, bodyLength, headerAt, tagAt, entryAt}
-use Rattle.bundle.specs.Answers.{Told, own, _orElse_, entryTold, Seen, seen}
+use Rattle.bundle.specs.Answers.{Told, own, _orElse_, entryTold, Seen}
 use Rattle.bundle.specs.Opening.{lastRows, openTable, bodyAt, unwrapsAt, opensEntry}
 use Rattle.bundle.specs.Writing.{Ready, starts}
 use Rattle.bundle.specs.Contents.{Pair, labelled, afterPairs}

@@ -34,7 +34,7 @@ pub fn entry_size(header: usize, body: usize) -> usize
     LENGTHS + header + body + TAG
 }
 
-// The entry at a place, by the entry rules, up to the end of the lent bytes.
+// The entry at a place, by the entry rules (document 01, "Bundle, version 1"), up to the end of the lent bytes.
 pub fn entry_at(bundle: &[u8], place: usize) -> Entry
     ensures { λ r. ⌜ r ≡ entryAt version1 (now (bundle .entry)) place ⌝ }
 {

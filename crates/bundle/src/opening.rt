@@ -68,7 +68,7 @@ fn open_whole(
     placed(done, place, next)
 }
 
-// Opens the entry at a place: its body goes to the first bytes of `out`, and the answer says where the next entry stands.
+// Opens the entry at a place (document 01, "Bundle, version 1"): its body goes to the first bytes of `out`, and the answer says where the next entry stands.
 // A refusal carries the place that was asked for.
 pub fn open_entry(s: Session, bundle: &[u8], place: usize, out: &mut [u8]) -> Reply
     ensures { λ r. ⌜ seen r (now (out .exit)) ≡ opensEntry version1 s (now (bundle .entry)) place (now (out .entry)) ⌝ }

@@ -73,7 +73,7 @@ fn write_first(s: Session, label: &[u8], bundle: &mut [u8]) -> Session
     write_entry(s, label, b"", bundle, format::FIRST)
 }
 
-// Starts a bundle.
+// Starts a bundle (document 01, "Bundle, version 1": Start).
 pub fn start(s: Session, label: &[u8], bundle: &mut [u8]) -> Reply
     ensures { λ r. ⌜ seen r (now (bundle .exit)) ≡ starts version1 s (now (label .entry)) (now (bundle .entry)) ⌝ }
 {
@@ -185,7 +185,7 @@ fn write_last(s: Session, header: &[u8], body: &[u8], bundle: &mut [u8]) -> Sess
     session
 }
 
-// Adds an entry to the bundle. All other bytes stand.
+// Adds an entry to the bundle (document 01, "Bundle, version 1": Add). All other bytes stand.
 pub fn add(s: Session, header: &[u8], body: &[u8], bundle: &mut [u8]) -> Reply
     ensures { λ r. ⌜ seen r (now (bundle .exit)) ≡ adds version1 s (now (header .entry)) (now (body .entry)) (now (bundle .entry)) ⌝ }
 {

@@ -7,7 +7,7 @@ use native.Mathlib.Numerals.{add-one}
 use native.Mathlib.Omega.{arith}
 use lib.Arith.{mod-mul}
 use lib.ListN.{length, getD, set, take, drop, length-append, length-drop}
-use lib.Seq.{sets, sets-eq, length-take-le, take-suc, getD-drop, getD-at, getD-append-add}
+use lib.Seq.{sets, take-suc, getD-drop, getD-at, getD-append-add}
 use Rattle.fields.specs.Numbers.{numberAt, bytesOf}
 use Rattle.fields.proofs.Stores.{sets-append}
 
@@ -73,12 +73,6 @@ number-bytes (suc k) n p q at h e =
     let low : getD (p ++ (high ++ (n % 256 ∷ q))) (at + k) 0 ≡ n % 256 =
     rw (← e, getD-append-add p (high ++ (n % 256 ∷ q)) k 0) (getD-at high (n % 256) q 0 k (length-bytesOf k (n / 256))) in
     rw (append-assoc high (n % 256 ∷ []) q, number-bytes k (n / 256) p (n % 256 ∷ q) at l e, low) (omega arith)
-
--- and so is a number that was stored
-pub number-put : (k : ℕ) (b : List ℕ) (at n : ℕ) → at + k ≤ length b → n < 256 ^ k → numberAt k (sets b at (bytesOf k n)) at ≡ n
-number-put k b at n h l =
-    let e : length (bytesOf k n) ≡ k = length-bytesOf k n in
-    rw (sets-eq (bytesOf k n) b at (omega arith), append-assoc) (number-bytes k n (take at b) _ at l (length-take-le at b (omega arith)))
 
 -- the bytes of a number that is read are those that it was read from
 pub bytes-number : (k : ℕ) (b : List ℕ) (at : ℕ) → at + k ≤ length b → ((i : ℕ) → getD b i 0 < 256) → bytesOf k (numberAt k b at) ≡ take k (drop at b)

@@ -45,7 +45,7 @@ impl Session {
     }
 }
 
-// A session from a key, a rate and a tag length. A refused open gives a session of zeros.
+// A session from a key, a rate and a tag length (SpongeWrap's initialise). A refused open gives a session of zeros.
 pub fn open(key: &[u8], rate: u16, tag: u16) -> Answer
     ensures { λ r. ⌜ r ≡ opens desk (now (key .entry)) rate tag ⌝ }
 {
@@ -138,7 +138,7 @@ fn seal_next(s: Session, header: &[u8], body: &[u8], out: &mut [u8]) -> Session
     advanced(s, lanes, header.len(), body.len())
 }
 
-// Seals a pair: the ciphertext and then the tag go to the first bytes of `out`.
+// Seals a pair (SpongeWrap's wrap): the ciphertext and then the tag go to the first bytes of `out`.
 pub fn wrap(s: Session, header: &[u8], body: &[u8], out: &mut [u8]) -> Answer
     ensures { λ r. ⌜ seen r (now (out .exit)) ≡ wraps desk s (now (header .entry)) (now (body .entry)) (now (out .entry)) ⌝ }
 {
@@ -197,7 +197,7 @@ fn open_pair(s: Session, header: &[u8], cipher: &[u8], tag: &[u8], out: &mut [u8
     Answer { number: 0, session }
 }
 
-// Opens a pair: the body goes to the first bytes of `out`, once the tag has been found right.
+// Opens a pair (SpongeWrap's unwrap): the body goes to the first bytes of `out`, once the tag has been found right.
 pub fn unwrap(s: Session, header: &[u8], cipher: &[u8], tag: &[u8], out: &mut [u8]) -> Answer
     ensures { λ r. ⌜ seen r (now (out .exit)) ≡ unwraps desk s (now (header .entry)) (now (cipher .entry)) (now (tag .entry)) (now (out .entry)) ⌝ }
 {

@@ -1,7 +1,7 @@
 -- What is unread and the parts of a pair stay within their buffers, and a turn adds at most one case.
 -- The loop's record lies past the 128 that `search` enters by itself, so it is listed.
 use mathlib.Core.Path.{_≡_}
-use Prim.Native.Nat.{_≤_, _-_}
+use Prim.Native.Nat.{_-_}
 use lib.ListN.{length}
 use Rattle.vectors.specs.Bounds.{Part, Tallied, Within}
 use borrow.Author.Needs.{needs}
