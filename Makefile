@@ -81,12 +81,8 @@ compare: probe desk
 	cd rust && $(CARGO) test $(RELEASE)
 	cd rust && $(CARGO) run $(RELEASE) --package soak -- 5
 
-# How long the calls take, and how much stack.
 bench: probe lib
 	cd rust && $(CARGO) run $(RELEASE) --package bench
-	mkdir -p target/c
-	gcc -std=c99 -O2 $(STRICT) -I$(DIST)/include c/bench/stack.c $(ARCHIVE) target/staticlib/libprobe.a -o target/c/stack
-	./target/c/stack
 
 # Every export with arbitrary bytes beside the reference: make soak SECONDS=600.
 soak: probe lib

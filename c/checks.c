@@ -1,6 +1,5 @@
-/* What feefledown.h says, called through it: pairs come back, codes are NIST's and are judged, each refusal has its number and writes
-   nothing, and NULL is an empty buffer; and the worked bundle of docs/FORMAT.md, opened entry by entry. It answers 0 only if everything
-   went as it must. */
+/* What feefledown.h says, called through it: pairs come back, each refusal has its number and writes nothing, and NULL is an empty buffer;
+   and the worked bundle of docs/FORMAT.md, opened entry by entry. It answers 0 only if everything went as it must. */
 
 #include "feefledown.h"
 
@@ -154,102 +153,6 @@ static void hash_is_right(void) {
     expect(memcmp(digest, due, sizeof due) == 0, "its SHA3-256 is the published one");
 }
 
-/* KMAC and its verification, at one rate. */
-struct codes {
-    uint8_t (*make)(const uint8_t *, size_t, const uint8_t *, size_t, const uint8_t *, size_t, uint8_t *, size_t);
-    uint8_t (*judge)(const uint8_t *, size_t, const uint8_t *, size_t, const uint8_t *, size_t, const uint8_t *, size_t);
-};
-
-static const struct codes KMAC[2] = {
-    {feefledown_kmac128, feefledown_kmac128_verify},
-    {feefledown_kmac256, feefledown_kmac256_verify},
-};
-
-/* NIST's samples 2 and 4 for SP 800-185. */
-static void codes_are_nists(void) {
-    static const uint8_t message[] = {0, 1, 2, 3}, due[2][64] = {
-        {
-            0x3b, 0x1f, 0xba, 0x96, 0x3c, 0xd8, 0xb0, 0xb5, 0x9e, 0x8c, 0x1a, 0x6d, 0x71, 0x88, 0x8b, 0x71,
-            0x43, 0x65, 0x1a, 0xf8, 0xba, 0x0a, 0x70, 0x70, 0xc0, 0x97, 0x9e, 0x28, 0x11, 0x32, 0x4a, 0xa5,
-        },
-        {
-            0x20, 0xc5, 0x70, 0xc3, 0x13, 0x46, 0xf7, 0x03, 0xc9, 0xac, 0x36, 0xc6, 0x1c, 0x03, 0xcb, 0x64,
-            0xc3, 0x97, 0x0d, 0x0c, 0xfc, 0x78, 0x7e, 0x9b, 0x79, 0x59, 0x9d, 0x27, 0x3a, 0x68, 0xd2, 0xf7,
-            0xf6, 0x9d, 0x4c, 0xc3, 0xde, 0x9d, 0x10, 0x4a, 0x35, 0x16, 0x89, 0xf2, 0x7c, 0xf6, 0xf5, 0x95,
-            0x1f, 0x01, 0x03, 0xf3, 0x3f, 0x4f, 0x24, 0x87, 0x10, 0x24, 0xd9, 0xc2, 0x77, 0x73, 0xa8, 0xdd,
-        },
-    };
-    static const char customisation[] = "My Tagged Application";
-    uint8_t key[32], code[64];
-    for (size_t i = 0; i < sizeof key; i++) {
-        key[i] = (uint8_t)(0x40 + i);
-    }
-    for (size_t i = 0; i < 2; i++) {
-        size_t length = 32 * (i + 1);
-        expect(KMAC[i].make(key, sizeof key, bytes_of(customisation), strlen(customisation), message, sizeof message, code, length) == 0,
-               "a code of NIST's sample is made");
-        expect(memcmp(code, due[i], length) == 0, "it is the published one");
-        expect(KMAC[i].judge(key, sizeof key, bytes_of(customisation), strlen(customisation), message, sizeof message, due[i], length) == 0,
-               "and is judged right");
-    }
-}
-
-/* A code of 32 bytes: right as it stands, and wrong if it is changed, cut or drawn out, or of something else. */
-static void codes_are_judged(void) {
-    const uint8_t *count = bytes_of("212 visits"), *use = bytes_of("visits");
-    for (size_t i = 0; i < 2; i++) {
-        uint8_t code[33] = {0};
-        expect(KMAC[i].make(KEY, 16, use, 6, count, 10, code, 32) == 0 && code[32] == 0, "a code is made, and nothing behind it");
-        expect(KMAC[i].judge(KEY, 16, use, 6, count, 10, code, 32) == FEEFLEDOWN_ACCEPTED, "a right code answers 0");
-        expect(KMAC[i].judge(KEY, 16, use, 6, count, 10, code, 31) == FEEFLEDOWN_WRONG_CODE, "its beginning is wrong");
-        expect(KMAC[i].judge(KEY, 16, use, 6, count, 10, code, 33) == FEEFLEDOWN_WRONG_CODE, "a byte more is wrong");
-        expect(KMAC[i].judge(KEY, 17, use, 6, count, 10, code, 32) == FEEFLEDOWN_WRONG_CODE, "another key is wrong");
-        expect(KMAC[i].judge(KEY, 16, use, 5, count, 10, code, 32) == FEEFLEDOWN_WRONG_CODE, "another customisation is wrong");
-        expect(KMAC[i].judge(KEY, 16, use, 6, count, 9, code, 32) == FEEFLEDOWN_WRONG_CODE, "another message is wrong");
-        code[31] ^= 1;
-        expect(KMAC[i].judge(KEY, 16, use, 6, count, 10, code, 32) == FEEFLEDOWN_WRONG_CODE, "a changed bit is wrong");
-    }
-}
-
-/* Both functions of one rate refuse these lengths by the same number, and nothing is written. */
-static void codes_are_refused(void) {
-    static const struct { size_t key, customisation, code; uint8_t number; } ROWS[] = {
-        {FEEFLEDOWN_KEY_LEAST - 1, FEEFLEDOWN_CUSTOMISATION_MOST + 1, FEEFLEDOWN_CODE_LEAST - 1, FEEFLEDOWN_BAD_KEY},
-        {FEEFLEDOWN_KEY_MOST + 1, 0, FEEFLEDOWN_CODE_LEAST, FEEFLEDOWN_BAD_KEY},
-        {FEEFLEDOWN_KEY_LEAST, FEEFLEDOWN_CUSTOMISATION_MOST + 1, FEEFLEDOWN_CODE_LEAST - 1, FEEFLEDOWN_BAD_TAG_LENGTH},
-        {FEEFLEDOWN_KEY_LEAST, 0, FEEFLEDOWN_CODE_MOST + 1, FEEFLEDOWN_BAD_TAG_LENGTH},
-        {FEEFLEDOWN_KEY_LEAST, FEEFLEDOWN_CUSTOMISATION_MOST + 1, FEEFLEDOWN_CODE_LEAST, FEEFLEDOWN_LONG_HEADER},
-    };
-    uint8_t code[FEEFLEDOWN_CODE_MOST + 1];
-    memset(code, 0x5A, sizeof code);
-    for (size_t i = 0; i < 2; i++) {
-        for (size_t row = 0; row < sizeof ROWS / sizeof ROWS[0]; row++) {
-            expect(KMAC[i].make(KEY, ROWS[row].key, BODY, ROWS[row].customisation, KEY, 16, code, ROWS[row].code) == ROWS[row].number,
-                   "a code past a limit is refused by its number");
-            expect(KMAC[i].judge(KEY, ROWS[row].key, BODY, ROWS[row].customisation, KEY, 16, code, ROWS[row].code) == ROWS[row].number,
-                   "and so is its verification");
-        }
-    }
-    expect(all(code, sizeof code, 0x5A), "no code is written");
-    expect(feefledown_kmac128(KEY, FEEFLEDOWN_KEY_MOST, BODY, FEEFLEDOWN_CUSTOMISATION_MOST, BODY, FEEFLEDOWN_BODY_MOST + 1, code,
-                              FEEFLEDOWN_CODE_MOST) == 0, "the largest code is made, of a message of any length");
-}
-
-/* NULL with length 0, for every parameter of a code. */
-static void null_is_empty_in_codes(void) {
-    for (size_t i = 0; i < 2; i++) {
-        uint8_t code[FEEFLEDOWN_CODE_LEAST], again[FEEFLEDOWN_CODE_LEAST];
-        expect(KMAC[i].make(NULL, 0, NULL, 0, NULL, 0, NULL, 0) == FEEFLEDOWN_BAD_KEY, "NULL throughout");
-        expect(KMAC[i].make(KEY, 16, NULL, 0, NULL, 0, NULL, 0) == FEEFLEDOWN_BAD_TAG_LENGTH, "NULL as a code");
-        expect(KMAC[i].make(KEY, 16, NULL, 0, NULL, 0, code, sizeof code) == 0, "NULL as customisation and message");
-        expect(KMAC[i].make(KEY, 16, BODY, 0, BODY, 0, again, sizeof again) == 0, "the same with other pointers");
-        expect(memcmp(code, again, sizeof code) == 0, "they are the same code");
-        expect(KMAC[i].judge(NULL, 0, NULL, 0, NULL, 0, NULL, 0) == FEEFLEDOWN_BAD_KEY, "NULL throughout, judged");
-        expect(KMAC[i].judge(KEY, 16, NULL, 0, NULL, 0, NULL, 0) == FEEFLEDOWN_BAD_TAG_LENGTH, "NULL as a code, judged");
-        expect(KMAC[i].judge(KEY, 16, NULL, 0, NULL, 0, code, sizeof code) == 0, "the code is right");
-    }
-}
-
 /* The entry of a bundle at a place, opened by hand: its lengths are read, its parts must lie inside the bundle, and they are unwrapped.
    The next place, or 0 if there is no whole entry or the library refuses it. */
 static size_t open_entry(uint8_t *image, const uint8_t *bundle, size_t length, size_t place, uint8_t *body, size_t body_room) {
@@ -306,10 +209,6 @@ int main(void) {
     pairs_are_refused();
     null_is_empty();
     hash_is_right();
-    codes_are_nists();
-    codes_are_judged();
-    codes_are_refused();
-    null_is_empty_in_codes();
     worked_bundle_opens();
     printf("%d things of the header looked at, %d wrong\n", looked, failures);
     return failures != 0;

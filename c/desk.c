@@ -1,6 +1,5 @@
 /* A desk's program over feefledown.h. The office seals a label and a record under the key that it shares with the desk; the desk opens
-   both, in the same order, and has what was sealed. Then a partner institution, whose members come in here and ours there, sends a
-   visit count with its code, and the desk believes that count alone. It ends with 0 only if every step went as it must. */
+   both, in the same order, and has what was sealed. It ends with 0 only if every step went as it must. */
 
 #include "feefledown.h"
 
@@ -9,7 +8,6 @@
 
 #define HEADER_ROOM 64
 #define BODY_ROOM 256
-#define CODE 32
 
 /* A pair as it travels: the header in clear, then the ciphertext, as long as the body, and the tag. */
 struct pair {
@@ -119,62 +117,13 @@ static int desk(const uint8_t *key, size_t key_length, const char *label, const 
     return 0;
 }
 
-/* A message that a partner signs, and its code. */
-struct count {
-    const char *text;
-    uint8_t code[CODE];
-};
-
-/* What every code of a visit count is customised by, so that it is no code of anything else under the same key. */
-static const char VISITS[] = "visit counts, 1";
-
-/* The partner: the code of a count, by the key that it shares with the desk. */
-static int sign(const uint8_t *key, size_t key_length, struct count *count) {
-    uint8_t answer = feefledown_kmac256(key, key_length, (const uint8_t *)VISITS, strlen(VISITS), (const uint8_t *)count->text,
-                                        strlen(count->text), count->code, sizeof count->code);
-    if (answer != 0) {
-        fprintf(stderr, "the partner was refused: %d\n", answer);
-    }
-    return answer != 0;
-}
-
-/* The desk: a count is believed if the answer is 0, and for no other answer. */
-static int is_believed(const uint8_t *key, size_t key_length, const struct count *count) {
-    uint8_t answer = feefledown_kmac256_verify(key, key_length, (const uint8_t *)VISITS, strlen(VISITS), (const uint8_t *)count->text,
-                                               strlen(count->text), count->code, sizeof count->code);
-    if (answer != 0 && answer != FEEFLEDOWN_WRONG_CODE) {
-        fprintf(stderr, "the desk was refused: %d\n", answer);
-    }
-    return answer == 0;
-}
-
-/* A count comes as it was signed, and then with another number over the same code. */
-static int visits(const uint8_t *key, size_t key_length) {
-    struct count count = {"lighthouse museum, week 46, sheet 12: 212 visits", {0}};
-    if (sign(key, key_length, &count) != 0) {
-        return 1;
-    }
-    if (!is_believed(key, key_length, &count)) {
-        fprintf(stderr, "a count is not believed that the partner signed\n");
-        return 1;
-    }
-    printf("The desk believes the partner's '%s'.\n", count.text);
-    count.text = "lighthouse museum, week 46, sheet 12: 912 visits";
-    if (is_believed(key, key_length, &count)) {
-        fprintf(stderr, "a count is believed that nobody signed\n");
-        return 1;
-    }
-    printf("It does not believe 912 visits under the same code.\n");
-    return 0;
-}
-
 int main(void) {
     const char *header = "member 17";
     const char *record = "season pass, two adults";
-    uint8_t key[32], partners_key[32], body[BODY_ROOM];
+    uint8_t key[32], body[BODY_ROOM];
     char label[HEADER_ROOM];
     struct pair pairs[2];
-    if (randomize(key, sizeof key) != 0 || randomize(partners_key, sizeof partners_key) != 0 || make_label(label) != 0) {
+    if (randomize(key, sizeof key) != 0 || make_label(label) != 0) {
         fprintf(stderr, "no random bytes\n");
         return 1;
     }
@@ -189,7 +138,5 @@ int main(void) {
         return 1;
     }
     printf("It is the record that was sealed.\n");
-    failed = visits(partners_key, sizeof partners_key);
-    wipe(partners_key, sizeof partners_key);
-    return failed;
+    return 0;
 }

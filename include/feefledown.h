@@ -1,4 +1,4 @@
-/* Feefledown: SpongeWrap sessions, SHA3-256 and KMAC for the desks' C programs.
+/* Feefledown: SpongeWrap sessions and SHA3-256 for the desks' C programs.
 
    How it is used. A key opens a session. Each call after that seals or opens one pair, a header and a body, and advances the
    session: a tag covers its header, its body and every pair before it. The other side opens a session with the same key and takes the
@@ -6,9 +6,7 @@
    one that it expects before it believes the rest.
 
    Answers. Every function answers 0, or the number of a refusal; look at each. A refused call writes to no buffer at all, the image
-   included. On success only the first bytes needed are written. Take a body as released only when the answer is 0. A code is judged
-   by 0 too: a verification answers 0 if and only if the code is right. One that refuses nothing and finds another code answers
-   FEEFLEDOWN_WRONG_CODE, which is no refusal's number.
+   included. On success only the first bytes needed are written. Take a body as released only when the answer is 0.
 
    Buffers. A buffer is passed as a pointer and a length in bytes. No two buffers of one call may overlap. For every parameter the
    pointer may be NULL where the length is 0 (tested, not proved).
@@ -24,11 +22,6 @@
    that follows; with a fresh one that is every session of its key. And Keccak-f can be run backwards: a fresh image of a key of up to
    135 bytes gives the key itself, and so does a later one to whoever knows, or can guess, the pairs between. So an image on disk wants
    a key's care. The library wipes nothing. Nothing guards an image against damage either: it is used as it stands.
-
-   Codes. A partner institution signs a message, such as a visit count, with KMAC (NIST SP 800-185): whoever has the key can make the
-   code and judge it. A code hides nothing, and an old message comes with its right code: let the message say whose, when and which
-   one it is. Let a key serve codes alone, no session, and let the customisation name the use. A code's length goes into it: the
-   beginning of a longer code is not a shorter one. Judge a code by the verification, which compares all of its bytes.
 
    What is not hidden, and what is not noticed. Headers travel in clear, and a body's length can be seen; the tag covers both. An old
    bundle can be replayed: it opens under its key, and only its label, compared with the expected one, gives it away. A bundle of
@@ -49,8 +42,8 @@ extern "C" {
 #endif
 
 /* The version of this header and its archive; the number, for #if, is 10,000 major + 100 minor + patch. */
-#define FEEFLEDOWN_VERSION "1.1.0"
-#define FEEFLEDOWN_VERSION_NUMBER 10100
+#define FEEFLEDOWN_VERSION "1.0.0"
+#define FEEFLEDOWN_VERSION_NUMBER 10000
 
 /* An answer that nobody looks at is warned of, where the compiler knows how. */
 #if defined(__GNUC__)
@@ -67,24 +60,18 @@ extern "C" {
 #define FEEFLEDOWN_KEY_MOST 256
 #define FEEFLEDOWN_HEADER_MOST 65535
 #define FEEFLEDOWN_BODY_MOST 1048576
-#define FEEFLEDOWN_CODE_LEAST 16
-#define FEEFLEDOWN_CODE_MOST 256
-#define FEEFLEDOWN_CUSTOMISATION_MOST 65535
 
-/* Refusals, each given exactly when its line says. 1, and 3 of a tag length, are never given of an image that feefledown_open made. 9
-   to 13 are of bundles, for which C has no calls yet. */
+/* Refusals, each given exactly when its line says. 1 and 3 are never given of an image that feefledown_open made. 9, 10 and 11 are of
+   bundles, for which C has no calls yet. */
 #define FEEFLEDOWN_ACCEPTED 0
 #define FEEFLEDOWN_BAD_RATE 1       /* the rate is not 136 or 168 */
 #define FEEFLEDOWN_BAD_KEY 2        /* the key is under 16 or over 256 bytes */
-#define FEEFLEDOWN_BAD_TAG_LENGTH 3 /* the tag length, or a code's, is under 16 or over 256 */
-#define FEEFLEDOWN_LONG_HEADER 4    /* the header, or a customisation, is over 65,535 bytes */
+#define FEEFLEDOWN_BAD_TAG_LENGTH 3 /* the tag length is under 16 or over 256 */
+#define FEEFLEDOWN_LONG_HEADER 4    /* the header is over 65,535 bytes */
 #define FEEFLEDOWN_LONG_BODY 5      /* the body is over 1,048,576 bytes */
 #define FEEFLEDOWN_NO_ROOM 6        /* a lent output is too short; an image is not 216 bytes */
 #define FEEFLEDOWN_FULL 7           /* the session has 65,535 pairs or more, or a count over 540,991,427 */
 #define FEEFLEDOWN_WRONG_TAG 8      /* the tag differs from the recomputed one, or has another length */
-
-/* What a verification answers that refuses nothing and finds another code. */
-#define FEEFLEDOWN_WRONG_CODE 255
 
 /* Opens a session with rate 136 and tags of 16 bytes, and lays it into `image`, which has 216 bytes. The key has 16 to 256.
    Refusals, in this order: 6, 2. */
@@ -109,25 +96,6 @@ uint8_t feefledown_unwrap(uint8_t *image, size_t image_length, const uint8_t *he
 /* The first 32 bytes of `digest` get the SHA3-256 of the message, of any length. Refusal: 6 if digest_length is under 32. */
 FEEFLEDOWN_CHECKED
 uint8_t feefledown_sha3_256(const uint8_t *message, size_t message_length, uint8_t *digest, size_t digest_length);
-
-/* The whole of `code` gets the code of the message by the key, KMAC128's or KMAC256's. The key has 16 to 256 bytes, the code 16 to 256,
-   the customisation at most 65,535, and the message any number; customisation and message may be empty. Refusals, in this order: 2,
-   3 for code_length, 4. */
-FEEFLEDOWN_CHECKED
-uint8_t feefledown_kmac128(const uint8_t *key, size_t key_length, const uint8_t *customisation, size_t customisation_length,
-                           const uint8_t *message, size_t message_length, uint8_t *code, size_t code_length);
-FEEFLEDOWN_CHECKED
-uint8_t feefledown_kmac256(const uint8_t *key, size_t key_length, const uint8_t *customisation, size_t customisation_length,
-                           const uint8_t *message, size_t message_length, uint8_t *code, size_t code_length);
-
-/* Judges a code: 0 if it is the one that the function above gives at its length, FEEFLEDOWN_WRONG_CODE if it is another. Refusals, in
-   this order: 2, 3 for code_length, 4. */
-FEEFLEDOWN_CHECKED
-uint8_t feefledown_kmac128_verify(const uint8_t *key, size_t key_length, const uint8_t *customisation, size_t customisation_length,
-                                  const uint8_t *message, size_t message_length, const uint8_t *code, size_t code_length);
-FEEFLEDOWN_CHECKED
-uint8_t feefledown_kmac256_verify(const uint8_t *key, size_t key_length, const uint8_t *customisation, size_t customisation_length,
-                                  const uint8_t *message, size_t message_length, const uint8_t *code, size_t code_length);
 
 #ifdef __cplusplus
 }

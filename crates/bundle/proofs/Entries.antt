@@ -24,16 +24,16 @@ use Rattle.bundle.proofs.Tables.{stops_at, goes}
 -- ---- the rules
 
 module _ (v : Version) (b : List ℕ) (place : ℕ) where
-  pub entry_short : {p : ℕ} → length b - place < 6 → p ≡ place + (length b - place) → Short p ≡ entry_at v b place
+  pub entry_short : length b - place < 6 → Short ≡ entry_at v b place
   unfolding entry_at pick
-  entry_short h e = rw (lt-ltb (length b - place) 6 h, e)
+  entry_short h = rw (lt-ltb (length b - place) 6 h)
 
   module _ (some : 6 ≤ length b - place) where
-    pub entry_large : most_body < body_length b place → Large (place + 2) ≡ entry_at v b place
+    pub entry_large : most_body < body_length b place → Large ≡ entry_at v b place
     unfolding entry_at pick
     entry_large h = rw (le-ltb (length b - place) 6 some, lt-ltb most_body (body_length b place) h)
 
-    pub entry_past : body_length b place ≤ most_body → length b < next_at v b place → Past (length b) ≡ entry_at v b place
+    pub entry_past : body_length b place ≤ most_body → length b < next_at v b place → Past ≡ entry_at v b place
     unfolding entry_at pick
     entry_past h l =
         rw (le-ltb (length b - place) 6 some, le-ltb most_body (body_length b place) h, lt-ltb (length b) (next_at v b place) l)
@@ -52,9 +52,9 @@ unless true x e h m n q d = absurd (d q)
 pub whole_at : (v : Version) (b : List ℕ) (place h m n : ℕ) → entry_at v b place ≡ Whole h m n → WholeAt v b place h m n
 unfolding entry_at
 whole_at v b place h m n e =
-    let p = unless (ltb (length b - place) 6) (Short (place + (length b - place))) _ h m n e (λ z. let o : ◌≡◌ {A = ℕ} 0 1 = cc in omega arith) in
-    let q = unless (long_body (body_length b place)) (Large (place + 2)) _ h m n p.1 (λ z. let o : ◌≡◌ {A = ℕ} 0 1 = cc in omega arith) in
-    let r = unless (ltb (length b) (next_at v b place)) (Past (length b)) _ h m n q.1 (λ z. let o : ◌≡◌ {A = ℕ} 0 1 = cc in omega arith) in
+    let p = unless (ltb (length b - place) 6) Short _ h m n e (λ z. let o : ◌≡◌ {A = ℕ} 0 1 = cc in omega arith) in
+    let q = unless (long_body (body_length b place)) Large _ h m n p.1 (λ z. let o : ◌≡◌ {A = ℕ} 0 1 = cc in omega arith) in
+    let r = unless (ltb (length b) (next_at v b place)) Past _ h m n q.1 (λ z. let o : ◌≡◌ {A = ℕ} 0 1 = cc in omega arith) in
     let eh : header_length b place ≡ h = cc in
     let em : body_length b place ≡ m = cc in
     let en : next_at v b place ≡ n = cc in
@@ -63,28 +63,28 @@ whole_at v b place h m n e =
     record { is_header = sym eh; is_body = sym em; is_next = sym en; small = omega arith; ends = omega arith }
 
 -- an entry that is none of `Whole` is refused
-pub not_whole : (e : Entry) → (tag_of the_type e ≡ 1) ⊎ ((tag_of the_type e ≡ 2) ⊎ (tag_of the_type e ≡ 3)) → (entry_told e).number ≡ 0 → ⊥
-not_whole (Whole h m n) (inl k) z = omega arith
-not_whole (Whole h m n) (inr (inl k)) z = omega arith
-not_whole (Whole h m n) (inr (inr k)) z = omega arith
-not_whole (Short p) k z = omega arith
-not_whole (Large p) k z = omega arith
-not_whole (Past p) k z = omega arith
+pub not_whole : (e : Entry) (place : ℕ) → (tag_of the_type e ≡ 1) ⊎ ((tag_of the_type e ≡ 2) ⊎ (tag_of the_type e ≡ 3)) → (entry_told e place).number ≡ 0 → ⊥
+not_whole (Whole h m n) place (inl k) z = omega arith
+not_whole (Whole h m n) place (inr (inl k)) z = omega arith
+not_whole (Whole h m n) place (inr (inr k)) z = omega arith
+not_whole Short place k z = omega arith
+not_whole Large place k z = omega arith
+not_whole Past place k z = omega arith
 
-pub not_labelled : (e : Entry) → ((entry_told e).number ≡ 0 → ⊥) → true ≡ unlabelled e
+pub not_labelled : (e : Entry) → ((entry_told e 0).number ≡ 0 → ⊥) → true ≡ unlabelled e
 unfolding unlabelled
 not_labelled (Whole h m n) d = absurd (d refl)
-not_labelled (Short p) d = refl
-not_labelled (Large p) d = refl
-not_labelled (Past p) d = refl
+not_labelled Short d = refl
+not_labelled Large d = refl
+not_labelled Past d = refl
 
-pub entry_bad : (e f : Entry) (n p : ℕ) (q : Told) → e ≡ f → ((entry_told e).number ≡ 0 → ⊥) → n ≡ (entry_told e).number → p ≡ (entry_told e).place
-    → refused n p ≡ (entry_told f or_else q)
+pub entry_bad : (e f : Entry) (place n p : ℕ) (q : Told) → e ≡ f → ((entry_told e place).number ≡ 0 → ⊥) → n ≡ (entry_told e place).number
+    → p ≡ (entry_told e place).place → refused n p ≡ (entry_told f place or_else q)
 unfolding by
-entry_bad (Whole h m x) f n p q g d en ep = absurd (d refl)
-entry_bad (Short x) f n p q g d en ep = rw (← g, en, ep)
-entry_bad (Large x) f n p q g d en ep = rw (← g, en, ep)
-entry_bad (Past x) f n p q g d en ep = rw (← g, en, ep)
+entry_bad (Whole h m x) f place n p q g d en ep = absurd (d refl)
+entry_bad Short f place n p q g d en ep = rw (← g, en, ep)
+entry_bad Large f place n p q g d en ep = rw (← g, en, ep)
+entry_bad Past f place n p q g d en ep = rw (← g, en, ep)
 
 -- ---- the walk: at the end; at entry 65,535; at an entry
 
@@ -102,15 +102,15 @@ module _ (v : Version) (b : List ℕ) (place k : ℕ) where
     unfolding entries_from walk_entries pick
     walk_full e = rw (e, lt-ltb place (length b) some)
 
-    pub walk_on : k < most_pairs → entries_from v b place k ≡ (entry_told (entry_at v b place) or_else entries_from v b (next_at v b place) (k + 1))
+    pub walk_on : k < most_pairs → entries_from v b place k ≡ (entry_told (entry_at v b place) place or_else entries_from v b (next_at v b place) (k + 1))
     unfolding entries_from walk_entries pick
     walk_on l =
         let n : most_pairs - k ≡ suc (most_pairs - (k + 1)) = omega arith in
         rw (n, lt-ltb place (length b) some)
 
-    pub walk_bad : k < most_pairs → (e : Entry) (n p : ℕ) → e ≡ entry_at v b place → ((entry_told e).number ≡ 0 → ⊥)
-        → n ≡ (entry_told e).number → p ≡ (entry_told e).place → refused n p ≡ entries_from v b place k
-    walk_bad l e n p g d en ep = entry_bad e _ n p _ g d en ep ∙ sym (walk_on l)
+    pub walk_bad : k < most_pairs → (e : Entry) (n p : ℕ) → e ≡ entry_at v b place → ((entry_told e place).number ≡ 0 → ⊥)
+        → n ≡ (entry_told e place).number → p ≡ (entry_told e place).place → refused n p ≡ entries_from v b place k
+    walk_bad l e n p g d en ep = entry_bad e _ place n p _ g d en ep ∙ sym (walk_on l)
 
     pub walk_next : k < most_pairs → (h m n : ℕ) → entry_at v b place ≡ Whole h m n → entries_from v b place k ≡ entries_from v b n (k + 1)
     unfolding by

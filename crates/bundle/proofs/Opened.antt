@@ -2,9 +2,7 @@
 use Prim.Native.Nat.{ℕ, ◌+◌, ◌-◌, ◌≤◌}
 use native.Mathlib.Omega.{arith}
 use mathlib.Core.Path.{◌≡◌, refl, sym, ap, ◌∙◌}
-use mathlib.Core.List.{List, [], ◌∷◌, ◌++◌}
-use mathlib.Core.Bool.{Bool}
-use lib.Dec.{ltb}
+use mathlib.Core.List.{List, ◌++◌}
 use lib.ListN.{length, get_or, take, drop, length-drop}
 use lib.Seq.{length-take-le}
 use mir.Syntax.{w8}
@@ -12,34 +10,29 @@ use mir.Val.{Fits}
 use Rattle.fields.proofs.Numbers.{number_two}
 use Rattle.spongewrap.specs.Desk.{desk}
 use Rattle.refusal.specs.Rows.{by, first}
-use Rattle.refusal.specs.Seen.{Seen, seen}
-use Rattle.spongewrap.specs.Sessions.{next, settled, foreign, unwraps}
+use Rattle.spongewrap.specs.Sessions.{next, settled, unwraps, Seen as Unwrapped, seen as unwrap_seen}
 use Rattle.spongewrap.specs.declared.Session.{Session}
-use Rattle.spongewrap.specs.declared.Answer.{Answer}
+use Rattle.spongewrap.specs.declared.Answer.{Answer as Unwrap}
 use Rattle.bundle.specs.declared.Entry.{Entry}
 use Rattle.bundle.specs.declared.Entry.TheVariants.{Whole}
-use Rattle.bundle.specs.Format.{Version, header_length, body_length, header_at, cipher_at, tag_at, next_at, WholeAt, entry_at}
-use Rattle.bundle.specs.Answers.{own, entry_told}
-use Rattle.bundle.specs.Opening.{open_table, body_at, unwraps_at, opens_entry}
+use Rattle.bundle.specs.Format.{Version, header_length, body_length, header_at, cipher_at, next_at, WholeAt, entry_at}
+use Rattle.bundle.specs.Answers.{own, entry_told, seen}
+use Rattle.bundle.specs.Opening.{last_rows, open_table, body_at, unwraps_at, opens_entry}
 use Rattle.bundle.proofs.Tables.{goes, fit, unwrap_rows, settle_stops, settle_by}
 use Rattle.bundle.proofs.Entries.{whole_at, entry_bad}
 
--- the rows that an unwrap brings
-abbrev pub last_rows : Version → Session → List ℕ → ℕ → ℕ → List (Bool × ℕ)
-last_rows v s b place out = (ltb out (body_length b place), 6) ∷ (foreign desk s (header_at b place) (cipher_at b place) (tag_at v b place), 8) ∷ []
-
 -- no entry is whole there
 pub open_bad : (v : Version) (s : Session) (b : List ℕ) (place : ℕ) (o : List ℕ) (e : Entry) (n p : ℕ) → first (own v s) ≡ 0 → e ≡ entry_at v b place
-    → ((entry_told e).number ≡ 0 → ⊥) → n ≡ (entry_told e).number → p ≡ (entry_told e).place
+    → ((entry_told e place).number ≡ 0 → ⊥) → n ≡ (entry_told e place).number → p ≡ (entry_told e place).place
     → seen (record { number = n; place = p; next = 0; session = s }) o ≡ opens_entry v s b place o
 unfolding opens_entry open_table
 open_bad v s b place o e n p z g d en ep =
-    settle_stops _ s _ o _ n p (goes place (sym z) refl (entry_bad e _ n p _ g d en ep)) (λ x. d (sym en ∙ x))
+    settle_stops _ s _ o _ n p (goes place (sym z) refl (entry_bad e _ place n p _ g d en ep)) (λ x. d (sym en ∙ x))
 
 -- the parts that the code lends are those of the entry
-pub parts_lent : (v : Version) (s : Session) (b : List ℕ) (place h m n : ℕ) (a : Answer) (o o' : List ℕ) → WholeAt v b place h m n
-    → seen a o' ≡ unwraps desk s (take (place + 6 + h - (place + 6)) (drop (place + 6) b)) (take (place + 6 + h + m - (place + 6 + h)) (drop (place + 6 + h) b))
-    (take (n - (place + 6 + h + m)) (drop (place + 6 + h + m) b)) o → seen a o' ≡ unwraps_at v s b place o
+pub parts_lent : (v : Version) (s : Session) (b : List ℕ) (place h m n : ℕ) (a : Unwrap) (o o' : List ℕ) → WholeAt v b place h m n
+    → unwrap_seen a o' ≡ unwraps desk s (take (place + 6 + h - (place + 6)) (drop (place + 6) b)) (take (place + 6 + h + m - (place + 6 + h)) (drop (place + 6 + h) b))
+    (take (n - (place + 6 + h + m)) (drop (place + 6 + h + m) b)) o → unwrap_seen a o' ≡ unwraps_at v s b place o
 parts_lent v s b place h m n a o o' w p =
     let ei : place + 6 + h - (place + 6) ≡ h = omega arith in
     let ej : place + 6 + h + m - (place + 6 + h) ≡ m = omega arith in
@@ -69,7 +62,7 @@ module _ (v : Version) (s : Session) (b : List ℕ) (place : ℕ) (o : List ℕ)
   module _ (bytes : (i : ℕ) → Fits w8 (get_or b i 0)) where
     -- and so an unwrap of the entry's parts
     unwrap_told : unwraps_at v s b place o
-        ≡ seen (record { number = last_number; session = by last_number s (next desk s (header_at b place) (body_at s b place)) })
+        ≡ unwrap_seen (record { number = last_number; session = by last_number s (next desk s (header_at b place) (body_at s b place)) })
         (by last_number o (body_at s b place ++ drop (length (body_at s b place)) o))
     unfolding unwraps settled body_at
     unwrap_told =
@@ -78,8 +71,8 @@ module _ (v : Version) (s : Session) (b : List ℕ) (place : ℕ) (o : List ℕ)
         let lc : length (cipher_at b place) ≡ body_length b place = long (body_length b place) (place + 6 + header_length b place) (omega arith) in
         rw (lh, lc, unwrap_rows v s (header_length b place) (body_length b place) (length o) (fit v s z) (omega (arith, number_two b place, bytes place, bytes (place + 1))) (omega arith) _)
 
-    pub open_is : (a : Answer) (o' : List ℕ) → seen a o' ≡ unwraps_at v s b place o
+    pub open_is : (a : Unwrap) (o' : List ℕ) → unwrap_seen a o' ≡ unwraps_at v s b place o
         → seen (record { number = a.number; place = by a.number place 0; next = by a.number 0 n; session = a.session }) o' ≡ opens_entry v s b place o
     open_is a o' call =
         let g = call ∙ unwrap_told in
-        rw (ap (λ (u : Seen Answer). u.answer.number) g, ap (λ (u : Seen Answer). u.answer.session) g, ap (λ (u : Seen Answer). u.out) g, w.is_next) (sym open_told)
+        rw (ap (λ (u : Unwrapped). u.answer.number) g, ap (λ (u : Unwrapped). u.answer.session) g, ap (λ (u : Unwrapped). u.out) g, w.is_next) (sym open_told)

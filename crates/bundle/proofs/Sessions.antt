@@ -9,29 +9,26 @@ use borrow.Author.Tests.{le-ltb}
 use mir.Val.{Fits}
 use mir.Syntax.{w8}
 use Rattle.refusal.specs.Rows.{first, by}
-use Rattle.refusal.specs.Seen.{Seen}
 use Rattle.refusal.proofs.Rows.{passed, clear_first}
 use Rattle.compare.proofs.Same.{same_is}
 use Rattle.spongewrap.specs.Desk.{desk}
-use Rattle.spongewrap.specs.Sessions.{next, tag_of, opens, wraps, foreign}
+use Rattle.spongewrap.specs.Sessions.{next, tag_of, opens, wraps, foreign, Seen as Called}
 use Rattle.spongewrap.specs.History.{Call, content, after_calls, answered, accepted_pairs, pair_with, Tells}
 use Rattle.spongewrap.specs.History.Call.{wrapping}
 use Rattle.spongewrap.specs.declared.Session.{Session}
-use Rattle.spongewrap.specs.declared.Answer.{Answer}
-use Rattle.bundle.specs.declared.Reply.{Reply}
 use Rattle.spongewrap.proofs.Theorems.{wrap_number, wrapped_is}
 use Rattle.spongewrap.proofs.Histories.{history_tells}
 use Rattle.bundle.specs.declared.Entry.{Entry}
 use Rattle.bundle.specs.declared.Entry.TheVariants.{Whole, Short, Large, Past}
 use Rattle.bundle.specs.Format.{Version, bundle_rate, body_length, header_at, tag_at, entry_at}
-use Rattle.bundle.specs.Answers.{Told, own, ◌or_else◌, entry_told}
-use Rattle.bundle.specs.Opening.{open_table, body_at, unwraps_at, opens_entry}
+use Rattle.bundle.specs.Answers.{Told, own, ◌or_else◌, entry_told, Seen}
+use Rattle.bundle.specs.Opening.{last_rows, open_table, body_at, unwraps_at, opens_entry}
 use Rattle.bundle.specs.Writing.{Ready, starts}
 use Rattle.bundle.specs.Contents.{Pair, labelled, after_pairs}
 use Rattle.bundle.proofs.Tables.{through, fit, wrap_rows}
 use Rattle.bundle.proofs.Entries.{whole_at}
 use Rattle.bundle.proofs.Contents.{adds_all, AllAdded, Sealed}
-use Rattle.bundle.proofs.Opened.{last_rows, open_told, open_is}
+use Rattle.bundle.proofs.Opened.{open_told, open_is}
 use Rattle.bundle.proofs.Written.{all_holds}
 use Rattle.bundle.proofs.Theorems.{opened_tag}
 
@@ -46,12 +43,12 @@ pub record PastChecks (v : Version) (s : Session) (b : List ℕ) (place : ℕ) :
   pub whole : entry_at v b place ≡ Whole header body after_it
 
 is_whole : (v : Version) (s : Session) (b : List ℕ) (place : ℕ) (x : Entry) (q : Told) → entry_at v b place ≡ x → first (own v s) ≡ 0
-    → (entry_told x or_else q).number ≡ 0 → PastChecks v s b place
+    → (entry_told x place or_else q).number ≡ 0 → PastChecks v s b place
 unfolding by
 is_whole v s b place (Whole h m n) q w r e = record { header = h; body = m; after_it = n; own_rows_lem = r; whole = w }
-is_whole v s b place (Short p) q w r e = absurd (omega arith)
-is_whole v s b place (Large p) q w r e = absurd (omega arith)
-is_whole v s b place (Past p) q w r e = absurd (omega arith)
+is_whole v s b place Short q w r e = absurd (omega arith)
+is_whole v s b place Large q w r e = absurd (omega arith)
+is_whole v s b place Past q w r e = absurd (omega arith)
 
 module _ (v : Version) (s : Session) (b : List ℕ) (place : ℕ) (o : List ℕ) where
   pub open_passed : (opens_entry v s b place o).answer.number ≡ 0 → PastChecks v s b place
@@ -60,7 +57,7 @@ module _ (v : Version) (s : Session) (b : List ℕ) (place : ℕ) (o : List ℕ)
 
   module _ (p : PastChecks v s b place) where
     told : (opens_entry v s b place o).answer.number ≡ first (last_rows v s b place (length o))
-    told = ap (λ (u : Seen Reply). u.answer.number) (open_told v s b place o p.header p.body p.after_it p.own_rows_lem p.whole)
+    told = ap (λ (u : Seen). u.answer.number) (open_told v s b place o p.header p.body p.after_it p.own_rows_lem p.whole)
 
     -- Past the other checks, an opening is accepted if and only if the entry's tag is the one recomputed over its header and body.
     pub open_accepts_exactly : p.body ≤ length o
@@ -75,11 +72,11 @@ module _ (v : Version) (s : Session) (b : List ℕ) (place : ℕ) (o : List ℕ)
     pub opening_is_unwrap : ((i : ℕ) → Fits w8 (get_or b i 0))
         → ((opens_entry v s b place o).answer.number ≡ (unwraps_at v s b place o).answer.number)
         × ((opens_entry v s b place o).answer.session ≡ (unwraps_at v s b place o).answer.session)
-        × ((opens_entry v s b place o).out ≡ (unwraps_at v s b place o).out)
+        × ((opens_entry v s b place o).buffer ≡ (unwraps_at v s b place o).out)
     opening_is_unwrap h =
         let u = unwraps_at v s b place o in
         let e = open_is v s b place o p.header p.body p.after_it p.own_rows_lem p.whole h u.answer u.out refl in
-        (sym (ap (λ (x : Seen Reply). x.answer.number) e), sym (ap (λ (x : Seen Reply). x.answer.session) e), sym (ap (λ (x : Seen Reply). x.out) e))
+        (sym (ap (λ (x : Seen). x.answer.number) e), sym (ap (λ (x : Seen). x.answer.session) e), sym (ap (λ (x : Seen). x.buffer) e))
 
 -- ---- a bundle's pairs as calls of a session
 
@@ -104,7 +101,7 @@ unfolding Sealed seal_calls after_calls after_pairs accepted_pairs answered pair
 sealed_history v s [] r = (refl, refl)
 sealed_history v s (x ∷ xs) r =
     let e = seals v s x.header x.body r.0 in
-    let n = ap (λ (u : Seen Answer). u.answer.session) (wrapped_is desk s x.header x.body _ e) in
+    let n = ap (λ (u : Called). u.answer.session) (wrapped_is desk s x.header x.body _ e) in
     let i = sealed_history v (next desk s x.header x.body) xs r.1 in
     let a = ap (λ (t : Session). accepted_pairs desk t (seal_calls v xs)) n in
     (ap (λ (t : Session). after_calls desk t (seal_calls v xs)) n ∙ i.0, rw (e, a) (ap (λ (l : List (List ℕ × List ℕ)). (x.header, x.body) ∷ l) i.1))

@@ -13,23 +13,20 @@ use Rattle.fields.proofs.Stores.{get_d_sets_before, get_or-sets_after}
 use Rattle.fields.proofs.Numbers.{length-bytes_of}
 use Rattle.spongewrap.specs.Desk.{desk}
 use Rattle.refusal.specs.Rows.{by, first}
-use Rattle.refusal.specs.Seen.{Seen, seen}
 use Rattle.spongewrap.specs.Sessions.{next, tag_of, foreign}
 use Rattle.spongewrap.specs.declared.Session.{Session}
-use Rattle.bundle.specs.declared.Reply.{Reply}
 use Rattle.compare.proofs.Same.{same_eq}
 use Rattle.refusal.proofs.Rows.{kept, all_clear}
 use Rattle.bundle.specs.declared.Entry.{Entry}
 use Rattle.bundle.specs.declared.Entry.TheVariants.{Whole, Short, Large, Past}
 use Rattle.bundle.specs.Format.{Version, entry_of, header_at, tag_at, next_at, entry_at}
-use Rattle.bundle.specs.Answers.{Told, refused, accepted, own, ◌or_else◌, entry_told, settled_at}
+use Rattle.bundle.specs.Answers.{Told, refused, accepted, own, ◌or_else◌, entry_told, Seen, seen, settled_at}
 use Rattle.bundle.specs.Survey.{unlabelled, entries_from, surveys}
-use Rattle.bundle.specs.Opening.{open_table, body_at, opens_entry}
+use Rattle.bundle.specs.Opening.{last_rows, open_table, body_at, opens_entry}
 use Rattle.bundle.specs.Writing.{start_table, starts, end_of, end_with, add_table, with_entry, adds}
 use Rattle.bundle.specs.Contents.{Pair, labelled, after_pairs, entries_of, bundle_with}
 use Rattle.bundle.proofs.Tables.{through}
-use Rattle.bundle.proofs.Entries.{entry_short, entry_whole, last_good, survey_walks}
-use Rattle.bundle.proofs.Opened.{last_rows, open_bad}
+use Rattle.bundle.proofs.Entries.{entry_whole, last_good, survey_walks}
 use Rattle.bundle.proofs.Contents.{number_in, length-entry, stands, adds_all, AllAdded, OpensAll, Sealed, opens_all, walk_all}
 use Rattle.bundle.proofs.Stores.{start_accepted, add_accepted, adds_is}
 use Rattle.bundle.proofs.Written.{Holds, ends, number_first, all_holds}
@@ -37,36 +34,35 @@ use Rattle.bundle.proofs.Written.{Holds, ends, number_first, all_holds}
 -- ---- what a table tells
 
 -- the session and the buffer that were handed over
-pub record Kept (s : Session) (d : List ℕ) (u : Seen Reply) : Type 0 where
+pub record Kept (s : Session) (d : List ℕ) (u : Seen) : Type 0 where
   pub session : u.answer.session ≡ s
-  pub buffer : u.out ≡ d
+  pub buffer : u.buffer ≡ d
 
 settled_kept : (t : Told) (s s' : Session) (d d' : List ℕ) → (t.number ≡ 0 → ⊥) → Kept s d (settled_at t s d s' d')
 settled_kept t s s' d d' w = record { session = kept t.number s s' w; buffer = kept t.number d d' w }
 
--- a table that refuses answers no value; and where the number is neither of the entry rules' two, the place is p
-pub record At (p : ℕ) (t : Told) : Type 0 where
-  pub silent : (t.number ≡ 0 → ⊥) → t ≡ refused t.number t.place
-  pub there : (t.number ≡ 0 → ⊥) → (t.number ≡ 12 → ⊥) → (t.number ≡ 13 → ⊥) → t.place ≡ p
+-- a table that refuses does so at p, and answers no value
+abbrev At : ℕ → Told → Type 0
+At p t = (t.number ≡ 0 → ⊥) → t ≡ refused t.number p
 
 at_place : (m p : ℕ) (q : Told) → At p q → At p (by m (refused m p) q)
 unfolding by
-at_place zero p q f = f
-at_place (suc m) p q f = record { silent = λ w. refl; there = λ w x y. refl }
+at_place zero p q f w = f w
+at_place (suc m) p q f w = refl
 
-at_entry : (e : Entry) (p : ℕ) (q : Told) → At p q → At p (entry_told e or_else q)
+at_entry : (e : Entry) (p : ℕ) (q : Told) → At p q → At p (entry_told e p or_else q)
 unfolding by
-at_entry (Whole h m n) p q f = f
-at_entry (Short x) p q f = record { silent = λ w. refl; there = λ w x y. absurd (x refl) }
-at_entry (Large x) p q f = record { silent = λ w. refl; there = λ w x y. absurd (y refl) }
-at_entry (Past x) p q f = record { silent = λ w. refl; there = λ w x y. absurd (x refl) }
+at_entry (Whole h m n) p q f w = f w
+at_entry Short p q f w = refl
+at_entry Large p q f w = refl
+at_entry Past p q f w = refl
 
-past_entry : (e : Entry) (q : Told) → (entry_told e or_else q).number ≡ 0 → q.number ≡ 0
+past_entry : (e : Entry) (p : ℕ) (q : Told) → (entry_told e p or_else q).number ≡ 0 → q.number ≡ 0
 unfolding by
-past_entry (Whole h m n) q e = e
-past_entry (Short p) q e = absurd (omega arith)
-past_entry (Large p) q e = absurd (omega arith)
-past_entry (Past p) q e = absurd (omega arith)
+past_entry (Whole h m n) p q e = e
+past_entry Short p q e = absurd (omega arith)
+past_entry Large p q e = absurd (omega arith)
+past_entry Past p q e = absurd (omega arith)
 
 module _ (v : Version) (s : Session) where
   -- ---- refusals keep everything
@@ -84,38 +80,22 @@ module _ (v : Version) (s : Session) where
   open_at : (b : List ℕ) (place out : ℕ) → At place (open_table v s b place out)
   unfolding open_table
   open_at b place out =
-      at_place (first (own v s)) place _ (at_entry (entry_at v b place) place _ (at_place _ place _ (record { silent = λ z. absurd (z refl); there = λ z x y. absurd (z refl) })))
+      at_place (first (own v s)) place _ (at_entry (entry_at v b place) place _ (at_place _ place _ (λ z. absurd (z refl))))
 
-  -- A refused opening gives back the session that it took and leaves every byte of the output; it carries no next place.
+  -- A refused opening gives back the session that it took and leaves every byte of the output; it carries the place that was asked
+  -- for, and no next one.
   pub open_refused : (b : List ℕ) (place : ℕ) (o : List ℕ) → ((opens_entry v s b place o).answer.number ≡ 0 → ⊥)
-      → opens_entry v s b place o ≡ seen (record { number = (opens_entry v s b place o).answer.number; place = (opens_entry v s b place o).answer.place; next = 0; session = s }) o
+      → opens_entry v s b place o ≡ seen (record { number = (opens_entry v s b place o).answer.number; place = place; next = 0; session = s }) o
   unfolding opens_entry
   open_refused b place o w =
-      let e = (open_at b place (length o)).silent w in
+      let e = open_at b place (length o) w in
       let k = settled_kept (open_table v s b place (length o)) s (next desk s (header_at b place) (body_at s b place)) o (body_at s b place ++ drop (length (body_at s b place)) o) w in
-      rw (k.session, k.buffer, ap (λ (u : Told). get_or u.values 0 0) e)
-
-  -- It carries the place that was asked for, unless the entry rules refused, whose 12 and 13 say where the fault is.
-  pub open_place : (b : List ℕ) (place : ℕ) (o : List ℕ) → ((opens_entry v s b place o).answer.number ≡ 0 → ⊥) → ((opens_entry v s b place o).answer.number ≡ 12 → ⊥)
-      → ((opens_entry v s b place o).answer.number ≡ 13 → ⊥) → (opens_entry v s b place o).answer.place ≡ place
-  unfolding opens_entry
-  open_place b place o = (open_at b place (length o)).there
-
-  -- Opened at the end of the lent bytes or past it, a bundle is refused 12 at the place that was asked for.
-  pub open_past_end : (b : List ℕ) (place : ℕ) (o : List ℕ) → first (own v s) ≡ 0 → length b ≤ place
-      → opens_entry v s b place o ≡ seen (record { number = 12; place = place; next = 0; session = s }) o
-  open_past_end b place o z l =
-      sym (open_bad v s b place o (Short place) 12 place z (entry_short v b place (omega arith) (omega arith)) (λ x. omega arith) refl refl)
+      rw (k.session, k.buffer, ap (λ (u : Told). u.place) e, ap (λ (u : Told). get_or u.values 0 0) e)
 
   -- All refusals numbered 8 at one place are the same, whatever bundle was handed over and whichever byte differs.
   pub eights_alike : (place : ℕ) (o b b' : List ℕ) → (opens_entry v s b place o).answer.number ≡ 8 → (opens_entry v s b' place o).answer.number ≡ 8
       → opens_entry v s b place o ≡ opens_entry v s b' place o
-  eights_alike place o b b' e f =
-      eight b e ∙ sym (eight b' f)
-    where
-      eight : (x : List ℕ) → (opens_entry v s x place o).answer.number ≡ 8 → opens_entry v s x place o ≡ seen (record { number = 8; place = place; next = 0; session = s }) o
-      eight x n =
-          open_refused x place o (λ z. omega arith) ∙ rw (n, open_place x place o (λ z. omega arith) (λ z. omega arith) (λ z. omega arith))
+  eights_alike place o b b' e f = open_refused b place o (λ z. omega arith) ∙ rw (e, ← f) (sym (open_refused b' place o (λ z. omega arith)))
 
   -- ---- the tag of an entry
 
@@ -125,7 +105,7 @@ module _ (v : Version) (s : Session) where
   unfolding opens_entry open_table body_at foreign
   opened_tag b place o e =
       let p = through (first (own v s)) place _ e in
-      let q = through _ place (accepted (next_at v b place ∷ [])) (past_entry (entry_at v b place) _ p.1) in
+      let q = through _ place (accepted (next_at v b place ∷ [])) (past_entry (entry_at v b place) place _ p.1) in
       let c = all_clear (last_rows v s b place (length o)) refl q.0 in
       same_eq _ _ (not-false _ c.1.0)
 
@@ -133,7 +113,7 @@ module _ (v : Version) (s : Session) where
 
   -- An accepted add writes the stated length and the new entry: all other bytes stand.
   pub others_stand : (h b d : List ℕ) (i : ℕ) → (adds v s h b d).answer.number ≡ 0
-      → (i < 1) ⊎ ((5 ≤ i) × (i < end_of d)) ⊎ (end_with v d (length h) (length b) ≤ i) → get_or (adds v s h b d).out i 0 ≡ get_or d i 0
+      → (i < 1) ⊎ ((5 ≤ i) × (i < end_of d)) ⊎ (end_with v d (length h) (length b) ≤ i) → get_or (adds v s h b d).buffer i 0 ≡ get_or d i 0
   unfolding with_entry
   others_stand h b d i e w =
       let a = add_accepted v s h b d e in
@@ -153,19 +133,19 @@ module _ (v : Version) (s : Session) where
 
 module _ (v : Version) (s : Session) (label d : List ℕ) (ps : List Pair) (all : AllAdded v (starts v s label d) ps) where
   -- the last call as it was seen; the bundle is the buffer up to its stated end
-  abbrev pub final : Seen Reply
+  abbrev pub final : Seen
   final = adds_all v (starts v s label d) ps
 
   abbrev pub written : List ℕ
-  written = take (end_of final.out) final.out
+  written = take (end_of final.buffer) final.buffer
 
-  holds : Holds v s (labelled label ∷ ps) final.answer.session final.out
+  holds : Holds v s (labelled label ∷ ps) final.answer.session final.buffer
   holds = all_holds v s label d ps all
 
   -- The bundle is the entries of all pairs in order, with the label's in front, and the session is the one after them.
   pub written_is : (written ≡ bundle_with v s (labelled label ∷ ps)) × (final.answer.session ≡ after_pairs s (labelled label ∷ ps))
   written_is =
-      (ap (λ (d : List ℕ). take (end_of final.out) d) holds.held ∙ take_at (bundle_with v s (labelled label ∷ ps)) holds.rest (end_of final.out) (sym (ends v s (labelled label ∷ ps) final.answer.session final.out holds)), holds.session)
+      (ap (λ (d : List ℕ). take (end_of final.buffer) d) holds.held ∙ take_at (bundle_with v s (labelled label ∷ ps)) holds.rest (end_of final.buffer) (sym (ends v s (labelled label ∷ ps) final.answer.session final.buffer holds)), holds.session)
 
   abbrev front : List ℕ
   front = v.number ∷ bytes_of 4 (length (entries_of s (labelled label ∷ ps)))

@@ -2,8 +2,7 @@
 use Rattle.std.specs.Prelude.{ℕ, List, [], ◌∷◌, Bool, not, eqb, get_or}
 use Rattle.spongewrap.specs.Desk.{desk}
 use Rattle.refusal.specs.Rows.{first, by}
-use Rattle.refusal.specs.Seen.{Seen, seen}
-use Rattle.spongewrap.specs.Refusals.{full, own_rows}
+use Rattle.spongewrap.specs.Refusals.{rows_of}
 use Rattle.spongewrap.specs.declared.Session.{Session}
 use Rattle.bundle.specs.declared.Entry.{Entry}
 use Rattle.bundle.specs.declared.Entry.TheVariants.{Whole, Short, Large, Past}
@@ -36,16 +35,16 @@ placed place rows = refused (first rows) place
 
 -- a session's own rows, with the bundle's rate and tag length: 1, 3, 7
 abbrev pub own : Version → Session → List (Bool × ℕ)
-own v s = own_rows (not (eqb s.rate bundle_rate)) (not (eqb s.tag v.tag)) (full desk.ceiling s.pairs s.calls)
+own v s = rows_of desk.ceiling s (not (eqb s.rate bundle_rate)) (not (eqb s.tag v.tag))
 
 -- ---- the answers that are enums
 
--- an entry: 12 if bytes are missing, 13 if its body length is over the limit
-abbrev pub entry_told : Entry → Told
-entry_told (Whole header body next) = accepted (header ∷ body ∷ next ∷ [])
-entry_told (Short place) = refused 12 place
-entry_told (Large place) = refused 13 place
-entry_told (Past place) = refused 12 place
+-- an entry at a place
+abbrev pub entry_told : Entry → ℕ → Told
+entry_told (Whole header body next) place = accepted (header ∷ body ∷ next ∷ [])
+entry_told Short place = refused 9 place
+entry_told Large place = refused 9 place
+entry_told Past place = refused 9 place
 
 -- a survey
 abbrev pub survey_told : Surveyed → Told
@@ -54,6 +53,14 @@ survey_told (Refused number place) = refused number place
 
 -- ---- the calls that hand a session back
 
+-- what is seen of one: its answer, and the lent buffer as it is left
+pub record Seen : Type 0 where
+  pub answer : Reply
+  pub buffer : List ℕ
+
+abbrev pub seen : Reply → List ℕ → Seen
+seen a d = record { answer = a; buffer = d }
+
 -- by its table: a refusal keeps the session s and the buffer d; else they are s' and d', and the next place is what it answers
-abbrev pub settled_at : Told → Session → List ℕ → Session → List ℕ → Seen Reply
+abbrev pub settled_at : Told → Session → List ℕ → Session → List ℕ → Seen
 settled_at t s d s' d' = seen (record { number = t.number; place = t.place; next = get_or t.values 0 0; session = by t.number s s' }) (by t.number d d')

@@ -5,8 +5,7 @@ use Rattle.std.specs.Prelude.{ℕ, ◌+◌, ◌-◌, ◌≤◌, ◌≡◌, refl,
 use Rattle.fields.specs.Numbers.{number_at, bytes_of}
 use Rattle.refusal.specs.Rows.{pick, outside}
 use Rattle.spongewrap.specs.Desk.{desk}
-use Rattle.refusal.specs.Limits.{bad_size}
-use Rattle.spongewrap.specs.Refusals.{most_body, long_body}
+use Rattle.spongewrap.specs.Refusals.{most_body, bad_size, long_body}
 use Rattle.spongewrap.specs.Sessions.{sealing, tag_of}
 use Rattle.spongewrap.specs.declared.Session.{Session}
 use Rattle.bundle.specs.declared.Entry.{Entry}
@@ -74,13 +73,12 @@ pub record WholeAt (v : Version) (b : List ℕ) (place header body next : ℕ) :
 
 -- ---- the entry rules
 
--- under 6 bytes left; a body length over 1,048,576; not enough bytes for the entry. Each comes with the place of the fault: of the first
--- missing byte, which is the end, or the place itself if that is past the end; or of the body length
+-- malformed: under 6 bytes left; a body length over 1,048,576; not enough bytes for the entry
 unfoldable pub entry_at : Version → List ℕ → ℕ → Entry
 entry_at v b place =
-    pick (ltb (length b - place) 6) (Short (place + (length b - place)))
-    (pick (long_body (body_length b place)) (Large (place + 2))
-    (pick (ltb (length b) (next_at v b place)) (Past (length b))
+    pick (ltb (length b - place) 6) Short
+    (pick (long_body (body_length b place)) Large
+    (pick (ltb (length b) (next_at v b place)) Past
     (Whole (header_length b place) (body_length b place) (next_at v b place))))
 
 -- entry zero has a label of 16 to 64 bytes and an empty body

@@ -11,9 +11,9 @@ use Rattle.bundle.specs.Answers.{Told, refused, accepted, placed, ◌or_else◌,
 -- entry zero is missing, has a body, or its header isn't 16 to 64 bytes
 unfoldable pub unlabelled : Entry → Bool
 unlabelled (Whole header body next) = not (eqb body 0) || bad_label header
-unlabelled (Short place) = true
-unlabelled (Large place) = true
-unlabelled (Past place) = true
+unlabelled Short = true
+unlabelled Large = true
+unlabelled Past = true
 
 -- last, 11 at 5; else the number of entries
 unfoldable pub last : Version → List ℕ → ℕ → Told
@@ -22,7 +22,8 @@ last v b k = placed 5 ((unlabelled (entry_at v b 5), 11) ∷ []) or_else accepte
 -- entry by entry: number k is at `place`, and n more may come before entry 65,535, which is 7 at its first byte
 unfoldable pub walk_entries : Version → ℕ → List ℕ → ℕ → ℕ → Told
 walk_entries v zero b place k = pick (ltb place (length b)) (refused 7 place) (last v b k)
-walk_entries v (suc n) b place k = pick (ltb place (length b)) (entry_told (entry_at v b place) or_else walk_entries v n b (next_at v b place) (k + 1)) (last v b k)
+walk_entries v (suc n) b place k =
+    pick (ltb place (length b)) (entry_told (entry_at v b place) place or_else walk_entries v n b (next_at v b place) (k + 1)) (last v b k)
 
 unfoldable pub entries_from : Version → List ℕ → ℕ → ℕ → Told
 entries_from v b place k = walk_entries v (most_pairs - k) b place k
@@ -30,4 +31,5 @@ entries_from v b place k = walk_entries v (most_pairs - k) b place k
 unfoldable pub surveys : Version → List ℕ → Told
 surveys v b =
     placed 0 ((eqb (length b) 0, 9) ∷ (ltb most (length b), 9) ∷ (not (eqb (get_or b 0 0) v.number), 10) ∷ [])
-    or_else placed 1 ((ltb (length b) 5, 9) ∷ (not (eqb (number_at 4 b 1) (length b - 5)), 9) ∷ []) or_else entries_from v b 5 0
+    or_else placed 1 ((ltb (length b) 5, 9) ∷ (not (eqb (number_at 4 b 1) (length b - 5)), 9) ∷ [])
+    or_else entries_from v b 5 0

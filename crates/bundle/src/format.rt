@@ -34,27 +34,25 @@ pub fn entry_size(header: usize, body: usize) -> usize
     LENGTHS + header + body + TAG
 }
 
-// The entry at a place, by the entry rules (document 01, "Bundle, version 1"; document 02, [1]), up to the end of the lent bytes.
+// The entry at a place, by the entry rules (document 01, "Bundle, version 1"), up to the end of the lent bytes.
 pub fn entry_at(bundle: &[u8], place: usize) -> Entry
     ensures { result ≡ entry_at version1 bundle.now place }
 {
-    let end = bundle.len();
-    if end <= place {
-        return Entry::Short { place };
+    if bundle.len() <= place {
+        return Entry::Short;
     }
-    let left = end - place;
+    let left = bundle.len() - place;
     if left < LENGTHS {
-        return Entry::Short { place: end };
+        return Entry::Short;
     }
     let header = fields::read_u16(bundle, place) as usize;
-    let second = place + 2;
-    let body = fields::read_u32(bundle, second) as usize;
+    let body = fields::read_u32(bundle, place + 2) as usize;
     if orders::MOST_BODY < body {
-        return Entry::Large { place: second };
+        return Entry::Large;
     }
     let size = entry_size(header, body);
     if left < size {
-        return Entry::Past { place: end };
+        return Entry::Past;
     }
     Entry::Whole {
         header,

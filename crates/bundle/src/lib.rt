@@ -23,13 +23,7 @@ pub const OTHER_VERSION: u8 = 10;
 
 pub const NO_LABEL: u8 = 11;
 
-// The bytes end before the entry does.
-pub const CUT_SHORT: u8 = 12;
-
-// A body length over the limit.
-pub const WILD_LENGTH: u8 = 13;
-
-// What stands at a place: a whole entry, or why there is none and the place of that fault.
+// What stands at a place: a whole entry, or why there is none.
 #[derive(Drop)]
 pub enum Entry {
     // The lengths of its header and body, and the place after it.
@@ -38,18 +32,12 @@ pub enum Entry {
         body: usize,
         next: usize,
     },
-    // Under six bytes are left: the place of the first that is missing.
-    Short {
-        place: usize,
-    },
-    // The body length is over the limit: its place.
-    Large {
-        place: usize,
-    },
-    // Its parts run past the end: the end.
-    Past {
-        place: usize,
-    },
+    // Under six bytes are left.
+    Short,
+    // The body length is over the limit.
+    Large,
+    // Its parts run past the end.
+    Past,
 }
 
 // A survey's answer: the number of entries, or a refusal.
@@ -76,9 +64,9 @@ struct Refusal {
     pub place: usize,
 }
 
-// The refusal of a place where no entry is whole: the causes get their numbers here.
-fn entry_refusal(entry: Entry) -> Refusal
-    ensures { (result.number ≡ (entry_told entry).number) × (result.place ≡ (entry_told entry).place) }
+// The refusal of a place where no entry is whole: the causes get their numbers and places here.
+fn entry_refusal(entry: Entry, place: usize) -> Refusal
+    ensures { (result.number ≡ (entry_told entry place).number) × (result.place ≡ (entry_told entry place).place) }
 {
     match entry {
         Entry::Whole {
@@ -89,16 +77,16 @@ fn entry_refusal(entry: Entry) -> Refusal
             number: 0,
             place: 0,
         },
-        Entry::Short { place } => Refusal {
-            number: CUT_SHORT,
+        Entry::Short => Refusal {
+            number: MALFORMED,
             place,
         },
-        Entry::Large { place } => Refusal {
-            number: WILD_LENGTH,
+        Entry::Large => Refusal {
+            number: MALFORMED,
             place,
         },
-        Entry::Past { place } => Refusal {
-            number: CUT_SHORT,
+        Entry::Past => Refusal {
+            number: MALFORMED,
             place,
         },
     }

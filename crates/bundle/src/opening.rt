@@ -1,10 +1,9 @@
 // Opening the entry at a place.
 ghost use Rattle.std.specs.Prelude.{◌≡◌};
 ghost use Rattle.refusal.specs.Rows.{first, by};
-ghost use Rattle.refusal.specs.Seen.{seen};
-ghost use Rattle.spongewrap.specs.Sessions.{next};
+ghost use Rattle.spongewrap.specs.Sessions.{next, seen as unwrapSeen};
 ghost use Rattle.bundle.specs.Format.{version1, WholeAt, entry_at};
-ghost use Rattle.bundle.specs.Answers.{own};
+ghost use Rattle.bundle.specs.Answers.{own, seen};
 ghost use Rattle.bundle.specs.Opening.{unwraps_at, opens_entry};
 
 use crate::{Entry, Reply, accept, entry_refusal, format, own_refusal, refuse};
@@ -21,7 +20,7 @@ fn unwrap_at(
     out: &mut [u8],
 ) -> spongewrap::Answer
     requires { WholeAt version1 bundle.now place header body next }
-    ensures { seen result out.new ≡ unwraps_at version1 s bundle.now place out.old }
+    ensures { unwrapSeen result out.new ≡ unwraps_at version1 s bundle.now place out.old }
 {
     let start = place + format::LENGTHS;
     let cipher = start + header;
@@ -65,7 +64,7 @@ fn open_whole(
 }
 
 // Opens the entry at a place (document 01, "Bundle, version 1"): its body goes to the first bytes of `out`, and the answer says where the next entry stands.
-// A refusal by the entry rules carries the place of the fault, any other the place that was asked for.
+// A refusal carries the place that was asked for.
 pub fn open_entry(s: Session, bundle: &[u8], place: usize, out: &mut [u8]) -> Reply
     ensures { seen result out.new ≡ opens_entry version1 s bundle.now place out.old }
 {
@@ -75,7 +74,7 @@ pub fn open_entry(s: Session, bundle: &[u8], place: usize, out: &mut [u8]) -> Re
     }
     let entry = format::entry_at(bundle, place);
     let Entry::Whole { header, body, next } = entry else {
-        let r = entry_refusal(entry);
+        let r = entry_refusal(entry, place);
         return refuse(r.number, r.place, s);
     };
     open_whole(s, bundle, place, header, body, next, out)

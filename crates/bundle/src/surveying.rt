@@ -43,7 +43,7 @@ fn survey_entries(bundle: &[u8]) -> Surveyed
             next,
         } = entry
         else {
-            let r = entry_refusal(entry);
+            let r = entry_refusal(entry, place);
             return Surveyed::Refused {
                 number: r.number,
                 place: r.place,

@@ -1,12 +1,11 @@
 // Starting a bundle, and adding to it in place.
 ghost use Rattle.std.specs.Prelude.{◌≡◌, ◌+◌, ◌≤◌, [], length};
 ghost use Rattle.std.proofs.lemmas.List.Edits.{sets};
-ghost use Rattle.refusal.specs.Seen.{seen};
 ghost use Rattle.spongewrap.specs.Sessions.{next};
 ghost use Rattle.spongewrap.specs.Desk.{desk};
 ghost use Rattle.spongewrap.specs.Refusals.{most_header, most_body};
 ghost use Rattle.bundle.specs.Format.{version1, most, front_of, entry_of, size};
-ghost use Rattle.bundle.specs.Answers.{refused};
+ghost use Rattle.bundle.specs.Answers.{refused, seen};
 ghost use Rattle.bundle.specs.Writing.{Ready, start_table, bundle_of, starts, end_of, end_in, end_with, buffer_table, add_table, with_entry, adds};
 
 use crate::{

@@ -1,3 +1,2 @@
 pub mod Hashing
-pub mod Codes
 pub mod Outcomes

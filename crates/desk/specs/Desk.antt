@@ -1,18 +1,25 @@
--- The desks' C functions (document 01, "Desk surface"). Open, wrap and unwrap are the calls of a session's image, and codes are KMAC's.
-use Rattle.std.specs.Prelude.{ℕ, List, [], ◌∷◌, ◌++◌, ltb, length, drop}
-use Rattle.refusal.specs.Rows.{pick, first, by}
-use Rattle.refusal.specs.Seen.{Seen, seen}
+-- The desks' C functions (document 01, "Desk surface"). Open, wrap and unwrap are the calls of a session's image.
+use Rattle.std.specs.Prelude.{ℕ, List, [], ◌∷◌, ◌++◌, length, drop}
+use Rattle.refusal.specs.Rows.{first, by, short}
 use Rattle.sponge.specs.Hashes.{sha3_256}
-use Rattle.kmac.specs.declared.Verdict.{Verdict}
 
--- what is seen of a hash call, whose answer is its number: refused 6 if the output is under 32 bytes
-unfoldable pub hashes : List ℕ → List ℕ → Seen ℕ
-hashes m o = let n = first ((ltb (length o) 32, 6) ∷ []) in seen n (by n o (sha3_256 m ++ drop 32 o))
+-- the settings of this open, which takes none
+abbrev pub desk_rate : ℕ
+desk_rate = 136
 
--- what a verification answers that refuses nothing and finds another code
-abbrev pub wrong_code : ℕ
-wrong_code = 255
+abbrev pub desk_tag : ℕ
+desk_tag = 16
 
--- a verdict in one byte: a refusal's number, or 0 for a right code
-unfoldable pub answer_of : Verdict → ℕ
-answer_of v = by v.number v.number (pick v.is_right 0 wrong_code)
+-- what is seen of a hash call: its number, and the lent output as it is left
+pub record Hashed : Type 0 where
+  pub number : ℕ
+  pub out : List ℕ
+
+abbrev pub hashed : ℕ → List ℕ → Hashed
+hashed n o = record { number = n; out = o }
+
+-- refused 6 if the output is under 32 bytes
+unfoldable pub hashes : List ℕ → List ℕ → Hashed
+hashes m o =
+    let n = first ((short (length o) 32, 6) ∷ []) in
+    hashed n (by n o (sha3_256 m ++ drop 32 o))

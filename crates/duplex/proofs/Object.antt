@@ -7,13 +7,11 @@ use Prim.Native.Nat.{ℕ, ◌≤◌, ◌<◌}
 use borrow.Author.Tests.{eqb-true, leb-false, ltb-false, not-false}
 use lib.Dec.{eqb, leb, ltb, lit<, lit≤}
 use lib.ListN.{length, take}
-use Rattle.refusal.specs.Rows.{pick}
-use Rattle.refusal.specs.Seen.{seen}
 use Rattle.refusal.proofs.Tests.{neither}
 use Rattle.keccak.specs.Rounds.{f1600}
 use Rattle.sponge.specs.Bytes.{bytes}
 use Rattle.duplex.specs.Duplex.{Rate, duplexing}
-use Rattle.duplex.specs.Object.{bit, duplex_refused, duplexes}
+use Rattle.duplex.specs.Object.{bit, duplex_refused, seen, duplex_settled, duplexes}
 use Rattle.duplex.specs.declared.Duplex.{Duplex}
 
 one_fails : (x y : Bool) → (not x && not y) ≡ false → (x ≡ true) ⊎ (y ≡ true)
@@ -44,10 +42,10 @@ bit_small false = lit< tt
 
 module _ (d : Duplex) (p : List ℕ) (b : Bool) (o : List ℕ) where
   pub refusing : duplex_refused d.rate (length p) (length o) ≡ true → seen (record { done = false; duplex = d }) o ≡ duplexes d p b o
-  unfolding duplexes pick
+  unfolding duplexes duplex_settled
   refusing e = rw e
 
   pub doing : (n : ℕ) (l o' : List ℕ) → duplex_refused d.rate (length p) (length o) ≡ false → n ≡ bit b → l ≡ duplexing 64 f1600 d.rate d.lanes p n
       → o' ≡ take (length o) (bytes 64 l) → seen (record { done = true; duplex = record { lanes = l; rate = d.rate } }) o' ≡ duplexes d p b o
-  unfolding duplexes pick
+  unfolding duplexes duplex_settled
   doing n l o' e f h q = rw (e, q, h, f)

@@ -1,13 +1,19 @@
 -- Any two outcomes that a method's contract (`Post`) allows of one call are equal, and a refused call keeps all.
-use mathlib.Core.Path.{◌≡◌, sym, ◌∙◌}
+use mathlib.Core.Path.{◌≡◌, sym, ap, ◌∙◌}
+use mathlib.Core.List.{List}
 use mathlib.Core.Bool.{true, false}
+use Prim.Native.Nat.{ℕ}
 use contract.Lifetimes.{Lfts}
 use lib.ListN.{length}
-use Rattle.refusal.proofs.Seen.{parts}
-use Rattle.duplex.specs.Object.{duplex_refused}
+use Rattle.duplex.specs.Object.{Seen, seen, duplex_refused}
+use Rattle.duplex.specs.declared.Outcome.{Outcome}
 use Rattle.duplex.proofs.Object.{refusing}
 use Rattle.duplex.proofs.Duplex.new.Reads as new
 use Rattle.duplex.proofs.Duplex.duplexing.Reads as duplexing
+
+-- what is seen says both its parts
+parts : (r r' : Outcome) (o o' : List ℕ) → seen r o ≡ seen r' o' → (r ≡ r') × (o ≡ o')
+parts r r' o o' e = (ap (λ (v : Seen). v.answer) e, ap (λ (v : Seen). v.out) e)
 
 pub new_outcome : (κs : Lfts 0) (a x y s t : _) → new.Post κs a x s → new.Post κs a y t → x ≡ y
 new_outcome κs a x y s t e h = e ∙ sym h

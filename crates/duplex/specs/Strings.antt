@@ -17,7 +17,8 @@ front R b s k = blocks_of (R - 1) (framed R b) s k
 
 -- all of s: the frame bit is `mid` but at the last piece, where it is `last`
 unfoldable pub cut : ℕ → ℕ → ℕ → List ℕ → List (List ℕ)
-cut R mid last s = front R mid s (before (R - 1) (length s)) ++ (framed R last (piece (R - 1) s (before (R - 1) (length s))) ∷ [])
+cut R mid last s =
+    front R mid s (before (R - 1) (length s)) ++ (framed R last (piece (R - 1) s (before (R - 1) (length s))) ∷ [])
 
 -- p xored with the first bytes of z
 unfoldable pub xored : List ℕ → List ℕ → List ℕ
@@ -39,7 +40,8 @@ module _ (w : ℕ) (f : List ℕ → List ℕ) (R : ℕ) (a : List ℕ) where
   -- the plaintext of the first k pieces of c: the masks come from the plaintext before, never from the ciphertext
   unfoldable pub unmasked : List ℕ → ℕ → List ℕ
   unmasked c zero = []
-  unmasked c (suc k) = unmasked c k ++ xored (piece (R - 1) c k) (bytes w (absorb w f a (front R 1 (unmasked c k) k)))
+  unmasked c (suc k) =
+      unmasked c k ++ xored (piece (R - 1) c k) (bytes w (absorb w f a (front R 1 (unmasked c k) k)))
 
   unfoldable pub opened : List ℕ → List ℕ
   opened c = unmasked c (blocks R (length c))

@@ -6,8 +6,7 @@ ghost use Rattle.sponge.specs.Bytes.{bytes};
 ghost use Rattle.sponge.specs.Sponge.{zeros};
 ghost use Rattle.duplex.specs.Duplex.{Rate, duplexing, blank, drawn, state_after};
 ghost use Rattle.duplex.specs.Strings.{xored, absorbed, sealed, opened};
-ghost use Rattle.refusal.specs.Seen.{seen};
-ghost use Rattle.duplex.specs.Object.{bit, duplex_refused, duplexes};
+ghost use Rattle.duplex.specs.Object.{bit, duplex_refused, seen, duplexes};
 
 // A duplex object: the state, and how many bytes of it a block covers.
 #[derive(Drop)]
@@ -45,8 +44,8 @@ impl Duplex {
                 duplex: self,
             };
         }
-        let mut lanes = self.lanes;
-        duplex_piece(&mut lanes, piece, frame_bit(frame), rate);
+        let before = self.lanes;
+        let lanes = duplexed(before, piece, frame_bit(frame), rate);
         sponge::put_bytes(lanes, out);
         let duplex = Duplex {
             lanes,
@@ -74,37 +73,29 @@ fn frame_bit(frame: bool) -> u8
     if frame { 1 } else { 0 }
 }
 
-// One duplexing of a piece, on a state where it stands.
-fn duplex_piece(a: &mut [u64; 25], piece: &[u8], frame: u8, rate: usize)
-    requires { (length a.old ≡ 25) × Rate 64 rate × (length piece.now < rate) × (frame < 2) }
-    ensures { (a.new ≡ duplexing 64 f1600 rate a.old piece.now frame) × (length a.new ≡ 25) }
+// One duplexing of a piece.
+fn duplexed(a: [u64; 25], piece: &[u8], frame: u8, rate: usize) -> [u64; 25]
+    requires { Rate 64 rate × (length piece.now < rate) × (frame < 2) }
+    ensures { result ≡ duplexing 64 f1600 rate a piece.now frame }
 {
-    sponge::absorb_piece(a, piece, 2 + frame, rate);
+    sponge::absorbed_piece(a, piece, 2 + frame, rate)
 }
 
-// A string absorbed piece by piece into a state where it stands: the frame bit is `mid` but at the last piece, where it is `last`.
-pub fn absorb(a: &mut [u64; 25], s: &[u8], mid: u8, last: u8, rate: usize)
-    requires { (length a.old ≡ 25) × Rate 64 rate × (mid < 2) × (last < 2) }
-    ensures { a.new ≡ absorbed 64 f1600 rate a.old mid last s.now }
-{
-    let most = rate - 1;
-    let mut at = 0;
-    while most < s.len() - at {
-        let e = at + most;
-        duplex_piece(a, &s[at..e], mid, rate);
-        at = e;
-    }
-    duplex_piece(a, &s[at..], last, rate);
-}
-
-// The same on a state by value.
+// A string absorbed piece by piece: the frame bit is `mid` but at the last piece, where it is `last`.
 pub fn absorbed(a: [u64; 25], s: &[u8], mid: u8, last: u8, rate: usize) -> [u64; 25]
     requires { Rate 64 rate × (mid < 2) × (last < 2) }
     ensures { result ≡ absorbed 64 f1600 rate a mid last s.now }
 {
+    let most = rate - 1;
     let mut st = a;
-    absorb(&mut st, s, mid, last, rate);
-    st
+    let mut at = 0;
+    while most < s.len() - at {
+        let e = at + most;
+        let next = duplexed(st, &s[at..e], mid, rate);
+        st = next;
+        at = e;
+    }
+    duplexed(st, &s[at..], last, rate)
 }
 
 // A piece xored with the first bytes of a state.
@@ -121,12 +112,12 @@ fn mask_into(a: [u64; 25], p: &[u8], out: &mut [u8])
 }
 
 // One piece of a body sealed: its ciphertext goes to `out`.
-fn seal_piece(a: &mut [u64; 25], p: &[u8], frame: u8, rate: usize, out: &mut [u8])
-    requires { (length a.old ≡ 25) × Rate 64 rate × (length p.now < rate) × (frame < 2) × (length out.old ≡ length p.now) }
-    ensures { (a.new ≡ duplexing 64 f1600 rate a.old p.now frame) × (length a.new ≡ 25) × (out.new ≡ xored p.now (bytes 64 a.old)) }
+fn seal_piece(a: [u64; 25], p: &[u8], frame: u8, rate: usize, out: &mut [u8]) -> [u64; 25]
+    requires { Rate 64 rate × (length p.now < rate) × (frame < 2) × (length out.old ≡ length p.now) }
+    ensures { (result ≡ duplexing 64 f1600 rate a p.now frame) × (out.new ≡ xored p.now (bytes 64 a)) }
 {
-    mask_into(*a, p, out);
-    duplex_piece(a, p, frame, rate);
+    mask_into(a, p, out);
+    duplexed(a, p, frame, rate)
 }
 
 // A body sealed into the first bytes of `out`, and the state after it.
@@ -139,21 +130,21 @@ pub fn sealed_into(a: [u64; 25], body: &[u8], rate: usize, out: &mut [u8]) -> [u
     let mut at = 0;
     while most < body.len() - at {
         let e = at + most;
-        seal_piece(&mut st, &body[at..e], 1, rate, &mut out[at..e]);
+        let next = seal_piece(st, &body[at..e], 1, rate, &mut out[at..e]);
+        st = next;
         at = e;
     }
     let n = body.len();
-    seal_piece(&mut st, &body[at..n], 0, rate, &mut out[at..n]);
-    st
+    seal_piece(st, &body[at..n], 0, rate, &mut out[at..n])
 }
 
 // One piece of a ciphertext opened: its plaintext goes to `out`, and that is what is absorbed.
-fn open_piece(a: &mut [u64; 25], p: &[u8], frame: u8, rate: usize, out: &mut [u8])
-    requires { (length a.old ≡ 25) × Rate 64 rate × (length p.now < rate) × (frame < 2) × (length out.old ≡ length p.now) }
-    ensures { (a.new ≡ duplexing 64 f1600 rate a.old out.new frame) × (length a.new ≡ 25) × (out.new ≡ xored p.now (bytes 64 a.old)) }
+fn open_piece(a: [u64; 25], p: &[u8], frame: u8, rate: usize, out: &mut [u8]) -> [u64; 25]
+    requires { Rate 64 rate × (length p.now < rate) × (frame < 2) × (length out.old ≡ length p.now) }
+    ensures { (result ≡ duplexing 64 f1600 rate a out.new frame) × (out.new ≡ xored p.now (bytes 64 a)) }
 {
-    mask_into(*a, p, out);
-    duplex_piece(a, &out[..], frame, rate);
+    mask_into(a, p, out);
+    duplexed(a, &out[..], frame, rate)
 }
 
 // A ciphertext opened into the first bytes of `out`, and the state after it.
@@ -166,22 +157,22 @@ pub fn opened_into(a: [u64; 25], cipher: &[u8], rate: usize, out: &mut [u8]) -> 
     let mut at = 0;
     while most < cipher.len() - at {
         let e = at + most;
-        open_piece(&mut st, &cipher[at..e], 1, rate, &mut out[at..e]);
+        let next = open_piece(st, &cipher[at..e], 1, rate, &mut out[at..e]);
+        st = next;
         at = e;
     }
     let n = cipher.len();
-    open_piece(&mut st, &cipher[at..n], 0, rate, &mut out[at..n]);
-    st
+    open_piece(st, &cipher[at..n], 0, rate, &mut out[at..n])
 }
 
 // One piece of a ciphertext opened in a local buffer.
-fn peek_piece(a: &mut [u64; 25], p: &[u8], frame: u8, rate: usize)
-    requires { (length a.old ≡ 25) × Rate 64 rate × (length p.now < rate) × (frame < 2) }
-    ensures { (a.new ≡ duplexing 64 f1600 rate a.old (xored p.now (bytes 64 a.old)) frame) × (length a.new ≡ 25) }
+fn peek_piece(a: [u64; 25], p: &[u8], frame: u8, rate: usize) -> [u64; 25]
+    requires { Rate 64 rate × (length p.now < rate) × (frame < 2) }
+    ensures { result ≡ duplexing 64 f1600 rate a (xored p.now (bytes 64 a)) frame }
 {
     let mut plain = [0u8; 200];
     let n = p.len();
-    open_piece(a, p, frame, rate, &mut plain[..n]);
+    open_piece(a, p, frame, rate, &mut plain[..n])
 }
 
 // The state after opening a ciphertext, with nothing written: what a tag is checked against before a body is released.
@@ -194,19 +185,19 @@ pub fn peeked(a: [u64; 25], cipher: &[u8], rate: usize) -> [u64; 25]
     let mut at = 0;
     while most < cipher.len() - at {
         let e = at + most;
-        peek_piece(&mut st, &cipher[at..e], 1, rate);
+        let next = peek_piece(st, &cipher[at..e], 1, rate);
+        st = next;
         at = e;
     }
-    peek_piece(&mut st, &cipher[at..], 0, rate);
-    st
+    peek_piece(st, &cipher[at..], 0, rate)
 }
 
 // A duplexing of the empty piece.
-fn duplex_blank(a: &mut [u64; 25], rate: usize)
-    requires { (length a.old ≡ 25) × Rate 64 rate }
-    ensures { (a.new ≡ blank 64 f1600 rate a.old) × (length a.new ≡ 25) }
+fn blanked(a: [u64; 25], rate: usize) -> [u64; 25]
+    requires { Rate 64 rate }
+    ensures { result ≡ blank 64 f1600 rate a }
 {
-    duplex_piece(a, b"", 0, rate);
+    duplexed(a, b"", 0, rate)
 }
 
 // The whole slice filled with output, rate - 1 bytes a state, and the state that the last of it was read from.
@@ -220,7 +211,8 @@ pub fn drawn_into(a: [u64; 25], rate: usize, out: &mut [u8]) -> [u64; 25]
     while most < out.len() - at {
         let e = at + most;
         sponge::put_bytes(st, &mut out[at..e]);
-        duplex_blank(&mut st, rate);
+        let next = blanked(st, rate);
+        st = next;
         at = e;
     }
     sponge::put_bytes(st, &mut out[at..]);

@@ -14,9 +14,8 @@ use Rattle.duplex.specs.Strings.{blocks, absorbed}
 use Rattle.spongewrap.specs.Desk.{desk}
 use Rattle.spongewrap.specs.SpongeWrap.{headed}
 use Rattle.refusal.specs.Rows.{pick}
-use Rattle.refusal.specs.Seen.{Seen}
 use Rattle.spongewrap.specs.Refusals.{open_refusal, wrap_refusal, unwrap_refusal}
-use Rattle.spongewrap.specs.Sessions.{opens, cost, advanced, next, sealing, tag_of, recovered, wraps, unwraps}
+use Rattle.spongewrap.specs.Sessions.{opens, cost, advanced, next, sealing, tag_of, recovered, Seen, wraps, unwraps}
 use Rattle.spongewrap.specs.declared.Session.{Session}
 use Rattle.spongewrap.specs.declared.Answer.{Answer}
 use Rattle.spongewrap.proofs.Theorems.{wrap_number, unwrap_number, wrapped_is, unwrapped_is, unwrap_accepts_exactly, wrong_tag_releases_nothing, text_is, mark_is}
@@ -60,7 +59,7 @@ text i o = take (length i.body) o
 abbrev pub mark : Wrapping → List ℕ → List ℕ
 mark i o = take i.session.tag (drop (length i.body) o)
 
-module _ (g : Wrapping → Seen Answer) (meets : (i : Wrapping) → g i ≡ wraps desk i.session i.header i.body i.out) where
+module _ (g : Wrapping → Seen) (meets : (i : Wrapping) → g i ≡ wraps desk i.session i.header i.body i.out) where
   module _ (i : Wrapping) (e : Taken i) where
     wraps_well : (wraps desk i.session i.header i.body i.out).answer.number ≡ 0
     wraps_well = wrap_number desk i.session i.header i.body i.out ∙ e
@@ -69,7 +68,7 @@ module _ (g : Wrapping → Seen Answer) (meets : (i : Wrapping) → g i ≡ wrap
     well = rw meets wraps_well
 
     session : (g i).answer.session ≡ next desk i.session i.header i.body
-    session = rw meets (ap (λ (v : Seen Answer). v.answer.session) (wrapped_is desk i.session i.header i.body i.out wraps_well))
+    session = rw meets (ap (λ (v : Seen). v.answer.session) (wrapped_is desk i.session i.header i.body i.out wraps_well))
 
     text_sealed : text i (g i).out ≡ sealing desk i.session i.header i.body
     text_sealed = rw meets (text_is desk i.session i.header i.body i.out wraps_well)
@@ -164,7 +163,7 @@ module _ (g : Wrapping → Seen Answer) (meets : (i : Wrapping) → g i ≡ wrap
 unwrapping_due : Unwrapping
 unwrapping_due = unwrapping_byte 136 [] due (lit< tt) (blanks 0 (lit< tt)) due_bytes
 
-module _ (g : Unwrapping → Seen Answer) (meets : (i : Unwrapping) → g i ≡ unwraps desk i.session i.header i.cipher i.tag i.out) where
+module _ (g : Unwrapping → Seen) (meets : (i : Unwrapping) → g i ≡ unwraps desk i.session i.header i.cipher i.tag i.out) where
   unwraps_well : (unwraps desk (plain 0x303 136) (0 ∷ []) [] due []).answer.number ≡ 0
   unfolding plain pick
   unwraps_well = (unwrap_accepts_exactly desk (plain 0x303 136) (0 ∷ []) [] due [] refl).1 (rw no_cipher (sym tag_zero))
@@ -190,7 +189,7 @@ module _ (g : Unwrapping → Seen Answer) (meets : (i : Unwrapping) → g i ≡ 
   unfolding unwrapping_due unwrapping_byte plain next advanced
   unwrap_does_nothing d =
       let e : (unwraps desk (plain 0x303 136) (0 ∷ []) [] due []).answer.session ≡ plain 0x303 136 = rw meets at (d unwrapping_due due_well) in
-      let z : ◌≡◌ {A = ℕ} 2 1 = ap (λ (s : Session). s.pairs) (sym (ap (λ (v : Seen Answer). v.answer.session) (unwrapped_is desk (plain 0x303 136) (0 ∷ []) [] due [] unwraps_well)) ∙ e) in
+      let z : ◌≡◌ {A = ℕ} 2 1 = ap (λ (s : Session). s.pairs) (sym (ap (λ (v : Seen). v.answer.session) (unwrapped_is desk (plain 0x303 136) (0 ∷ []) [] due [] unwraps_well)) ∙ e) in
       omega arith
 
   -- An unwrap that writes the plaintext and then checks the tag.
@@ -205,7 +204,7 @@ module _ (g : Unwrapping → Seen Answer) (meets : (i : Unwrapping) → g i ≡ 
       let other : [] ≡ tag_of desk s x (recovered desk s x x) → ⊥ = λ e. omega (arith, ap length e, length-tag_of desk s x (recovered desk s x x) r) in
       let n = meets i ∙ wrong_tag_releases_nothing desk s x x [] x refl other in
       let z : ◌≡◌ {A = ℕ} 0 0x1f =
-      ap (λ (l : List ℕ). get_or l 0 0) (sym (ap (λ (v : Seen Answer). take 1 v.out) n) ∙ d i (ap (λ (v : Seen Answer). v.answer.number) n)) ∙ first_opened in
+      ap (λ (l : List ℕ). get_or l 0 0) (sym (ap (λ (v : Seen). take 1 v.out) n) ∙ d i (ap (λ (v : Seen). v.answer.number) n)) ∙ first_opened in
       omega arith
 
   -- An unwrap that opens under another member's header: what is accepted under one is accepted under any of that length.

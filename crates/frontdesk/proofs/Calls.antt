@@ -6,11 +6,10 @@ use mathlib.Core.List.{List, []}
 use mathlib.Core.Bool.{Bool, true, false}
 use lib.ListN.{length, take, drop, get_or}
 use Rattle.refusal.specs.Rows.{by}
-use Rattle.refusal.specs.Seen.{Seen, seen}
 use Rattle.refusal.proofs.Rows.{kept, made, taken, passed}
 use Rattle.compare.specs.Same.{same}
 use Rattle.spongewrap.specs.Desk.{desk}
-use Rattle.spongewrap.specs.Sessions.{wraps, unwraps}
+use Rattle.spongewrap.specs.Sessions.{wraps, unwraps, Seen, seen}
 use Rattle.spongewrap.specs.declared.Session.{Session}
 use Rattle.spongewrap.specs.declared.Answer.{Answer}
 use Rattle.bundle.specs.declared.Entry.{Entry}
@@ -21,7 +20,7 @@ use Rattle.bundle.specs.declared.Reply.{Reply}
 use Rattle.bundle.specs.Answers.{Told, entry_told, survey_told}
 use Rattle.bundle.specs.Format.{version1, header_length, header_at, entry_at}
 use Rattle.bundle.proofs.Entries.{whole_at}
-use Rattle.frontdesk.specs.Day.{dots, bundle_session, whole_header, opens_at, opens_from, opens_bundle, opens_pair}
+use Rattle.frontdesk.specs.Day.{dots, bundle_session, whole_header, opens_at, opens_from, opens_bundle, sealed_pair, opens_pair}
 
 -- ---- a survey
 
@@ -33,9 +32,9 @@ survey_refused e f = rw (← e, f)
 
 -- ---- the header of an entry
 
-pub header_none : (e : Entry) (b : List ℕ) (place : ℕ) → e ≡ entry_at version1 b place → ((entry_told e).number ≡ 0 → ⊥) → [] ≡ whole_header b place
+pub header_none : (e : Entry) (b : List ℕ) (place : ℕ) → e ≡ entry_at version1 b place → ((entry_told e place).number ≡ 0 → ⊥) → [] ≡ whole_header b place
 unfolding whole_header
-header_none e b place f w = rw (← f) (sym (kept (entry_told e).number [] (header_at b place) w))
+header_none e b place f w = rw (← f) (sym (kept (entry_told e place).number [] (header_at b place) w))
 
 pub header_whole : (b : List ℕ) (place h m n : ℕ) → entry_at version1 b place ≡ Whole h m n
     → take (n - 16 - m - (n - 16 - m - h)) (drop (n - 16 - m - h) b) ≡ whole_header b place
@@ -88,11 +87,12 @@ pub pair_opened : (s : Session) (h o x : List ℕ) (n e : ℕ) {a : Answer} → 
 unfolding opens_pair
 pair_opened s h o x n e f g =
     let z : e - n ≡ 16 = omega arith in
-    ap (λ (u : Seen Answer). u.answer.session) (rw z at g)
+    ap (λ (u : Seen). u.answer.session) (rw z at g)
 
 pub pair_sealed : (s : Session) (h b o : List ℕ) (a : Answer) → seen a o ≡ wraps desk s h b dots → a.session ≡ (wraps desk s h b dots).answer.session
-pair_sealed s h b o a e = ap (λ (u : Seen Answer). u.answer.session) e
+pair_sealed s h b o a e = ap (λ (u : Seen). u.answer.session) e
 
 pub pair_passed : (from to : Session) (h b o : List ℕ) (a : Answer) {r : Session} → seen a o ≡ wraps desk from h b dots → r ≡ opens_pair to h (length b) o
-    → r ≡ opens_pair to h (length b) (wraps desk from h b dots).out
-pair_passed from to h b o a e f = rw (← e) f
+    → r ≡ opens_pair to h (length b) (sealed_pair from h b)
+unfolding sealed_pair
+pair_passed from to h b o a e f = rw (sealed_pair, ← e) f

@@ -3,7 +3,7 @@ use Rattle.std.specs.Prelude.{ℕ, zero, suc, ◌-◌, List, [], take, drop, rep
 use Rattle.refusal.specs.Rows.{by, pick}
 use Rattle.compare.specs.Same.{same}
 use Rattle.spongewrap.specs.Desk.{desk}
-use Rattle.spongewrap.specs.Sessions.{opens, unwraps}
+use Rattle.spongewrap.specs.Sessions.{opens, wraps, unwraps}
 use Rattle.spongewrap.specs.declared.Session.{Session}
 use Rattle.bundle.specs.declared.Reply.{Reply}
 use Rattle.bundle.specs.Format.{version1, bundle_rate, header_at, entry_at}
@@ -22,7 +22,7 @@ bundle_session key = (opens desk key bundle_rate version1.tag).session
 
 -- the header of the entry at a place; empty where no entry is whole
 unfoldable pub whole_header : List ℕ → ℕ → List ℕ
-whole_header b place = by (entry_told (entry_at version1 b place)).number [] (header_at b place)
+whole_header b place = by (entry_told (entry_at version1 b place) place).number [] (header_at b place)
 
 unfoldable pub opens_at : Session → List ℕ → ℕ → Reply
 opens_at s b place = (opens_entry version1 s b place dots).answer
@@ -30,15 +30,23 @@ opens_at s b place = (opens_entry version1 s b place dots).answer
 -- the session after n entries from a place on, each opened by the session that the last one left; one that is refused is the last
 unfoldable pub opens_from : ℕ → Session → List ℕ → ℕ → Session
 opens_from zero s b place = s
-opens_from (suc n) s b place = let r = opens_at s b place in by r.number r.session (opens_from n r.session b r.next)
+opens_from (suc n) s b place =
+    by (opens_at s b place).number (opens_at s b place).session
+    (opens_from n (opens_at s b place).session b (opens_at s b place).next)
 
--- the session after a bundle of n entries: the others follow entry zero under the label that is expected
+-- the session after a bundle of n entries, by the reply r to the opening of entry zero: the others follow under the label that is expected
+abbrev opens_rest : Reply → List ℕ → List ℕ → ℕ → Session
+opens_rest r label b n =
+    by r.number r.session
+    (pick (same (whole_header b 5) label) (opens_from (n - 1) r.session b r.next) r.session)
+
 unfoldable pub opens_bundle : List ℕ → List ℕ → List ℕ → ℕ → Session
-opens_bundle key label b n =
-    let r = opens_at (bundle_session key) b 5 in
-    by r.number r.session (pick (same (whole_header b 5) label) (opens_from (n - 1) r.session b r.next) r.session)
+opens_bundle key label b n = opens_rest (opens_at (bundle_session key) b 5) label b n
 
--- ---- a pair outside a bundle: one side's session after it opened what the other sealed, n bytes of ciphertext and the tag at the front of o
+-- ---- a pair outside a bundle: what one side seals, and the session of the other side after it opened that
+
+unfoldable pub sealed_pair : Session → List ℕ → List ℕ → List ℕ
+sealed_pair s h b = (wraps desk s h b dots).out
 
 unfoldable pub opens_pair : Session → List ℕ → ℕ → List ℕ → Session
 opens_pair s h n o = (unwraps desk s h (take n o) (take 16 (drop n o)) dots).answer.session

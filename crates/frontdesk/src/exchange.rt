@@ -2,7 +2,7 @@
 ghost use Rattle.std.specs.Prelude.{◌≡◌, ◌+◌, ◌≤◌, length};
 ghost use Rattle.spongewrap.specs.Desk.{desk};
 ghost use Rattle.spongewrap.specs.Sessions.{wraps};
-ghost use Rattle.frontdesk.specs.Day.{dots, opens_pair};
+ghost use Rattle.frontdesk.specs.Day.{dots, sealed_pair, opens_pair};
 
 use crate::{DOT, ROOM, lines};
 use spongewrap::Session;
@@ -31,7 +31,7 @@ fn open(s: Session, header: &[u8], sealed: &[u8], n: usize) -> Session
 // Passes a pair from one side to the other.
 fn pass(from: Session, to: Session, header: &[u8], body: &[u8]) -> Sides
     requires { length body.now ≤ 240 }
-    ensures { (result.sealer ≡ (wraps desk from header.now body.now dots).answer.session) × (result.opener ≡ opens_pair to header.now (length body.now) (wraps desk from header.now body.now dots).out) }
+    ensures { (result.sealer ≡ (wraps desk from header.now body.now dots).answer.session) × (result.opener ≡ opens_pair to header.now (length body.now) (sealed_pair from header.now body.now)) }
 {
     let mut sealed = [DOT; ROOM];
     let n = body.len();

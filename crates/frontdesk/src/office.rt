@@ -1,7 +1,7 @@
 // The office: a bundle is started with a label, and members are added.
 ghost use Rattle.std.specs.Prelude.{◌≡◌, take};
 ghost use Rattle.bundle.specs.Format.{version1};
-ghost use Rattle.refusal.specs.Seen.{seen};
+ghost use Rattle.bundle.specs.Answers.{seen};
 ghost use Rattle.bundle.specs.Writing.{starts, end_in, adds};
 ghost use Rattle.frontdesk.specs.Day.{bundle_session};
 

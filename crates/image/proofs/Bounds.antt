@@ -32,14 +32,14 @@ module _ (m : ℕ) (z : 0 < m) where
   below_cons x l h k zero = h
   below_cons x l h k (suc i) = k i
 
-  below-append : (x y : List ℕ) → Below m x → Below m y → Below m (x ++ y)
-  below-append [] y h k = k
-  below-append (a ∷ x) y h k = below_cons a (x ++ y) (h 0) (below-append x y (λ i. h (suc i)) k)
+  below_append : (x y : List ℕ) → Below m x → Below m y → Below m (x ++ y)
+  below_append [] y h k = k
+  below_append (a ∷ x) y h k = below_cons a (x ++ y) (h 0) (below_append x y (λ i. h (suc i)) k)
 
-  pub below-take : (n : ℕ) (l : List ℕ) → Below m l → Below m (take n l)
-  below-take zero l h = λ i. z
-  below-take (suc n) [] h = λ i. z
-  below-take (suc n) (x ∷ l) h = below_cons x (take n l) (h 0) (below-take n l (λ i. h (suc i)))
+  pub below_take : (n : ℕ) (l : List ℕ) → Below m l → Below m (take n l)
+  below_take zero l h = λ i. z
+  below_take (suc n) [] h = λ i. z
+  below_take (suc n) (x ∷ l) h = below_cons x (take n l) (h 0) (below_take n l (λ i. h (suc i)))
 
   below_zeros : (k : ℕ) → Below m (replicate k 0)
   below_zeros zero = λ i. z
@@ -48,7 +48,7 @@ module _ (m : ℕ) (z : 0 < m) where
   below_table : (n : ℕ) (f : ℕ → ℕ) → ((i : ℕ) → f i < m) → Below m (table n f)
   unfolding table
   below_table zero f h = λ i. z
-  below_table (suc n) f h = below-append (table n f) (f n ∷ []) (below_table n f h) (below_cons (f n) [] (h n) (λ i. z))
+  below_table (suc n) f h = below_append (table n f) (f n ∷ []) (below_table n f h) (below_cons (f n) [] (h n) (λ i. z))
 
 -- ---- bytes
 
@@ -57,18 +57,18 @@ some = zero-lt-suc 255
 
 piece_bytes : (n : ℕ) (s : List ℕ) (k : ℕ) → Below 256 s → Below 256 (piece n s k)
 unfolding piece
-piece_bytes n s k h = below-take 256 some n (drop (k * n) s) (λ i. rw (get_or-drop (k * n) s i 0) (h (k * n + i)))
+piece_bytes n s k h = below_take 256 some n (drop (k * n) s) (λ i. rw (get_or-drop (k * n) s i 0) (h (k * n + i)))
 
 tail_bytes : (s m : ℕ) → s < 128 → Below 256 (tail s m)
 unfolding tail
 tail_bytes s zero h = below_cons 256 some (s + 128) [] (omega arith) (λ i. some)
 tail_bytes s (suc m) h =
     below_cons 256 some s (replicate m 0 ++ (128 ∷ [])) (omega arith)
-    (below-append 256 some (replicate m 0) (128 ∷ []) (below_zeros 256 some m) (below_cons 256 some 128 [] (omega arith) (λ i. some)))
+    (below_append 256 some (replicate m 0) (128 ∷ []) (below_zeros 256 some m) (below_cons 256 some 128 [] (omega arith) (λ i. some)))
 
 framed_bytes : (R b : ℕ) (p : List ℕ) → b < 2 → Below 256 p → Below 256 (framed R b p)
 unfolding framed padded
-framed_bytes R b p l h = below-append 256 some p (tail (2 + b) (R - 1 - length p)) h (tail_bytes (2 + b) _ (omega arith))
+framed_bytes R b p l h = below_append 256 some p (tail (2 + b) (R - 1 - length p)) h (tail_bytes (2 + b) _ (omega arith))
 
 xored_bytes : (p z : List ℕ) → Below 256 p → Below 256 z → Below 256 (xored p z)
 unfolding xored
@@ -84,7 +84,7 @@ module _ (w : ℕ) (f : List ℕ → List ℕ) (R : ℕ) (a c : List ℕ) (h : B
   unmasked_bytes zero = λ i. some
   unmasked_bytes (suc k) =
       let y : List ℕ = absorb w f a (front R 1 (unmasked w f R a c k) k) in
-      below-append 256 some (unmasked w f R a c k) (xored (piece (R - 1) c k) (bytes w y)) (unmasked_bytes k)
+      below_append 256 some (unmasked w f R a c k) (xored (piece (R - 1) c k) (bytes w y)) (unmasked_bytes k)
       (xored_bytes (piece (R - 1) c k) (bytes w y) (piece_bytes (R - 1) c k h) (state_bytes w y))
 
   pub opened_bytes : Below 256 (opened w f R a c)

@@ -7,10 +7,10 @@ use native.Mathlib.Omega.{arith}
 use lib.Dec.{eqb}
 use lib.ListN.{length, take, drop}
 use Rattle.refusal.specs.Rows.{pick, by}
-use Rattle.refusal.specs.Seen as calls
 use Rattle.refusal.proofs.Rows.{taken, passed, kept}
 use Rattle.refusal.proofs.Tests.{other, alike}
 use Rattle.spongewrap.specs.Desk.{desk}
+use Rattle.spongewrap.specs.Sessions as sessions
 use Rattle.spongewrap.specs.Sessions.{opens, wraps, unwraps}
 use Rattle.spongewrap.specs.declared.Answer.{Answer}
 use Rattle.spongewrap.specs.declared.Session.{Session}
@@ -27,7 +27,7 @@ module _ (n : ℕ) (b o : List ℕ) where
   pub right_length : (u v : Seen) → length b ≡ n → u ≡ v → u ≡ sized n b o v
   right_length u v h e = passed (seen 6 b o) (alike (length b) n h) e
 
-called : (i o : List ℕ) (w : calls.Seen Answer) → length i ≡ image_length → (a : Answer) (o' : List ℕ) → calls.seen a o' ≡ w → (n : ℕ) (i' : List ℕ)
+called : (i o : List ℕ) (w : sessions.Seen) → length i ≡ image_length → (a : Answer) (o' : List ℕ) → sessions.seen a o' ≡ w → (n : ℕ) (i' : List ℕ)
     → n ≡ a.number → i' ≡ by a.number i (image_of a.session) → seen n i' o' ≡ sized image_length i o (over_image i w)
 called i o w h a o' e n i' f g = right_length image_length i o (seen n i' o') (over_image i w) h (rw (← e, f, g))
 
@@ -37,12 +37,12 @@ unfolding opens_image
 opened_is i i' n a key R t h e f = called i [] _ h a [] (rw e) n i' f.0 f.1
 
 pub wrapped_is : (i i' : List ℕ) (n : ℕ) (a : Answer) (s : Session) (k b o o' : List ℕ) → length i ≡ image_length → s ≡ session_of i
-    → calls.seen a o' ≡ wraps desk s k b o → (n ≡ a.number) × (i' ≡ by a.number i (image_of a.session)) → seen n i' o' ≡ wraps_image i k b o
+    → sessions.seen a o' ≡ wraps desk s k b o → (n ≡ a.number) × (i' ≡ by a.number i (image_of a.session)) → seen n i' o' ≡ wraps_image i k b o
 unfolding wraps_image
 wrapped_is i i' n a s k b o o' h z e f = called i o _ h a o' (e ∙ rw z) n i' f.0 f.1
 
 pub unwrapped_is : (i i' : List ℕ) (n : ℕ) (a : Answer) (s : Session) (k c t o o' : List ℕ) → length i ≡ image_length → s ≡ session_of i
-    → calls.seen a o' ≡ unwraps desk s k c t o → (n ≡ a.number) × (i' ≡ by a.number i (image_of a.session)) → seen n i' o' ≡ unwraps_image i k c t o
+    → sessions.seen a o' ≡ unwraps desk s k c t o → (n ≡ a.number) × (i' ≡ by a.number i (image_of a.session)) → seen n i' o' ≡ unwraps_image i k c t o
 unfolding unwraps_image
 unwrapped_is i i' n a s k c t o o' h z e f = called i o _ h a o' (e ∙ rw z) n i' f.0 f.1
 
@@ -52,7 +52,7 @@ pub record Kept (i o : List ℕ) (v : Seen) : Type 0 where
   pub image : v.image ≡ i
   pub out : v.out ≡ o
 
-sized_kept : (t : Bool) (i o : List ℕ) (w : calls.Seen Answer) → ((w.answer.number ≡ 0 → ⊥) → w.out ≡ o) → ((pick t (seen 6 i o) (over_image i w)).number ≡ 0 → ⊥)
+sized_kept : (t : Bool) (i o : List ℕ) (w : sessions.Seen) → ((w.answer.number ≡ 0 → ⊥) → w.out ≡ o) → ((pick t (seen 6 i o) (over_image i w)).number ≡ 0 → ⊥)
     → Kept i o (pick t (seen 6 i o) (over_image i w))
 unfolding pick
 sized_kept true i o w k d = record { image = refl; out = refl }

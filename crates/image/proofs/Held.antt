@@ -5,7 +5,6 @@ use Prim.Native.Nat.{ℕ, zero, suc, ◌+◌, ◌-◌, ◌≤◌}
 use native.Mathlib.Nat.{div-le_self}
 use native.Mathlib.Omega.{arith}
 use lib.ListN.{length}
-use Rattle.refusal.specs.Seen.{Seen}
 use Rattle.keccak.specs.Rounds.{f1600}
 use Rattle.keccak.proofs.States.{rounds_state}
 use Rattle.sponge.specs.Pieces.{before}
@@ -14,11 +13,10 @@ use Rattle.refusal.proofs.Rows.{made}
 use Rattle.spongewrap.specs.SpongeWrap.{keyed, headed, bodied, left, plaintext}
 use Rattle.spongewrap.specs.Refusals.{open_refusal, Fits}
 use Rattle.spongewrap.specs.Desk.{desk}
-use Rattle.spongewrap.specs.Sessions.{none, fresh, opens, cost, advanced, next, recovered}
+use Rattle.spongewrap.specs.Sessions.{Seen, none, fresh, opens, cost, advanced, next, recovered}
 use Rattle.spongewrap.specs.History.{Call, answered}
 use Rattle.spongewrap.specs.History.Call.{wrapping, unwrapping}
 use Rattle.spongewrap.specs.declared.Session.{Session}
-use Rattle.spongewrap.specs.declared.Answer.{Answer}
 use Rattle.spongewrap.proofs.Passed.{open_fits, wrap_fits, unwrap_fits}
 use Rattle.spongewrap.proofs.Settle.{length-recovered}
 use Rattle.spongewrap.proofs.Theorems.{wrap_number, wrap_kept, unwrap_kept, wrapped_is, unwrapped_is, accepted_ready}
@@ -70,12 +68,12 @@ module _ (s : Session) (e : Held s) where
   by_number : (c : Call) → Handed c → (n : ℕ) → (answered desk s c).answer.number ≡ n → Held (answered desk s c).answer.session
   unfolding answered Handed
   by_number (wrapping h b o) u zero z =
-      rw (ap (λ (v : Seen Answer). v.answer.session) (wrapped_is desk s h b o z))
+      rw (ap (λ (v : Seen). v.answer.session) (wrapped_is desk s h b o z))
       (next_held h b u.0 u.1 (wrap_fits desk s (length h) (length b) (length o) (sym (wrap_number desk s h b o) ∙ z)).0)
   by_number (wrapping h b o) u (suc n) z = rw (wrap_kept desk s h b o (λ y. omega arith)).session e
   by_number (unwrapping h c t o) u zero z =
       let f = (unwrap_fits desk s (length h) (length c) (length o) (accepted_ready desk s h c t o z)).0 in
-      rw (ap (λ (v : Seen Answer). v.answer.session) (unwrapped_is desk s h c t o z))
+      rw (ap (λ (v : Seen). v.answer.session) (unwrapped_is desk s h c t o z))
       (next_held h (recovered desk s h c) u.0 (recovered_bytes h c u.1) (rw (length-recovered desk s h c f.rate) f))
   by_number (unwrapping h c t o) u (suc n) z = rw (unwrap_kept desk s h c t o (λ y. omega arith)).session e
 

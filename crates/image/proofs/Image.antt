@@ -18,7 +18,7 @@ use Rattle.fields.proofs.Stores.{sets-append}
 use Rattle.spongewrap.specs.declared.Session.{Session}
 use Rattle.spongewrap.proofs.ComesBack.{copied}
 use Rattle.image.specs.Image.{image_length, fields_of, field_bytes, image_of, session_of}
-use Rattle.image.proofs.Bounds.{Below, below-take}
+use Rattle.image.proofs.Bounds.{Below, below_take}
 
 -- ---- fields, a width and a value each, one behind the other
 
@@ -125,5 +125,5 @@ session_image s h =
 pub image_session : (b : List ℕ) → length b ≡ image_length → Below 256 b → image_of (session_of b) ≡ b
 unfolding image_of session_of
 image_session b l h =
-    rw (front_lanes b, bytes_of_lanes 64 room (take 200 b) (length-take-le 200 b (omega arith)) (below-take 256 (zero-lt-suc 255) 200 b h), written_fields b 200 (fields_of (session_of b)) (sym l) h)
+    rw (front_lanes b, bytes_of_lanes 64 room (take 200 b) (length-take-le 200 b (omega arith)) (below_take 256 (zero-lt-suc 255) 200 b h), written_fields b 200 (fields_of (session_of b)) (sym l) h)
     (take-append-drop 200 b)

@@ -7,15 +7,14 @@ use mathlib.Core.Bool.{not}
 use lib.Dec.{eqb}
 use lib.ListN.{length, take, drop}
 use Rattle.refusal.specs.Rows.{pick, by}
-use Rattle.refusal.specs.Seen as calls
 use Rattle.refusal.proofs.Rows.{made}
 use Rattle.refusal.proofs.Tests.{alike}
 use Rattle.spongewrap.specs.Desk.{desk}
+use Rattle.spongewrap.specs.Sessions as sessions
 use Rattle.spongewrap.specs.Sessions.{opens, wraps, unwraps}
 use Rattle.spongewrap.specs.History.{Call, answered, SealedPair, pair_with, content, after_calls, accepted_pairs, Tells}
 use Rattle.spongewrap.specs.History.Call.{wrapping, unwrapping}
 use Rattle.spongewrap.specs.declared.Session.{Session}
-use Rattle.spongewrap.specs.declared.Answer.{Answer}
 use Rattle.spongewrap.proofs.Theorems.{wrap_kept, unwrap_kept}
 use Rattle.spongewrap.proofs.Histories.{history_tells}
 use Rattle.spongewrap.proofs.ComesBack.{same_history}
@@ -56,11 +55,11 @@ kept_image zero s s' h = refl
 kept_image (suc n) s s' h = ap image_of (sym (h (λ e. omega arith)))
 
 -- what is seen of a call on a session, over its image
-abbrev shown : calls.Seen Answer → Seen
+abbrev shown : sessions.Seen → Seen
 shown w = seen w.answer.number (image_of w.answer.session) w.out
 
 module _ (s : Session) (e : Held s) where
-  over_image_lem : (o : List ℕ) (call : Session → calls.Seen Answer) → (((call s).answer.number ≡ 0 → ⊥) → (call s).answer.session ≡ s)
+  over_image_lem : (o : List ℕ) (call : Session → sessions.Seen) → (((call s).answer.number ≡ 0 → ⊥) → (call s).answer.session ≡ s)
       → sized image_length (image_of s) o (over_image (image_of s) (call (session_of (image_of s)))) ≡ shown (call s)
   unfolding pick
   over_image_lem o call k =
@@ -107,7 +106,7 @@ module _ (key : List ℕ) (R t : ℕ) where
       opened : ((opens desk key R t).number ≡ 0) × ((opens_image key R t i).image ≡ image_of begun)
       unfolding opens_image pick
       opened =
-          let q = was_whole (not (eqb (length i) image_length)) i [] (over_image i (calls.seen (opens desk key R t) [])) e in
+          let q = was_whole (not (eqb (length i) image_length)) i [] (over_image i (sessions.seen (opens desk key R t) [])) e in
           let n = rw q at e in
           (n, rw q (made (opens desk key R t).number i (image_of begun) n))
 

@@ -21,4 +21,11 @@ unfoldable pub image_of : Session → List ℕ
 image_of s = bytes 64 s.lanes ++ field_bytes (fields_of s)
 
 unfoldable pub session_of : List ℕ → Session
-session_of b = record { lanes = table 25 (lane_of 64 b); rate = number_at 2 b 200; tag = number_at 2 b 202; pairs = number_at 4 b 204; calls = number_at 8 b 208 }
+session_of b =
+    record {
+      lanes = table 25 (lane_of 64 b);
+      rate = number_at 2 b 200;
+      tag = number_at 2 b 202;
+      pairs = number_at 4 b 204;
+      calls = number_at 8 b 208;
+    }

@@ -1,4 +1,4 @@
-pub mod InPlace
 pub mod Outcomes
 pub mod Rounds
+pub mod Rows
 pub mod States

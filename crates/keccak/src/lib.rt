@@ -1,16 +1,14 @@
 // Keccak-f[1600], the permutation of FIPS 202 on 25 lanes of 64 bits: lane (x, y) stands at x + 5 y.
-// Each step is a function of its own over arrays by value, and changes the lanes in place: ρ and π hold one lane aside, χ one row of five.
-// Compiled, they become one loop over the rounds.
-ghost use Rattle.std.specs.Prelude.{◌≡◌, ◌<◌, ◌≤◌, length};
-ghost use Rattle.keccak.specs.Lanes.{from, rotl};
-ghost use Rattle.keccak.specs.Steps.{parity, effects, spread, theta, rho, pi, chi, iota, theta_row, chi_row};
+// Each step is a function of its own over arrays by value; compiled, they become one loop over the rounds.
+ghost use Rattle.std.specs.Prelude.{◌≡◌, ◌≤◌};
+ghost use Rattle.keccak.specs.Steps.{parities, effects, spread, theta, rho, pi, chi, chi_row, iota};
 ghost use Rattle.keccak.specs.Rounds.{round, f1600};
 
 pub mod tables;
 
 // θ, its first part: the parity of each column.
 fn column_parities(a: [u64; 25]) -> [u64; 5]
-    ensures { result ≡ from (parity a) 0 5 }
+    ensures { result ≡ parities a }
 {
     [
         a[0] ^ a[5] ^ a[10] ^ a[15] ^ a[20],
@@ -34,29 +32,37 @@ fn column_effects(c: [u64; 5]) -> [u64; 5]
     ]
 }
 
-// θ on one row: the five lanes that start at place i. Each takes the effect of its column.
-fn theta_row(a: [u64; 25], d: [u64; 5], i: usize) -> [u64; 25]
-    requires { i ≤ 20 }
-    ensures { result ≡ theta_row d i a }
-{
-    let mut b = a;
-    b[i] = b[i] ^ d[0];
-    b[i + 1] = b[i + 1] ^ d[1];
-    b[i + 2] = b[i + 2] ^ d[2];
-    b[i + 3] = b[i + 3] ^ d[3];
-    b[i + 4] = b[i + 4] ^ d[4];
-    b
-}
-
-// θ, its last part: row by row.
+// θ, its last part: each lane takes the effect of its column.
 fn spread(a: [u64; 25], d: [u64; 5]) -> [u64; 25]
     ensures { result ≡ spread d a }
 {
-    theta_row(
-        theta_row(theta_row(theta_row(theta_row(a, d, 0), d, 5), d, 10), d, 15),
-        d,
-        20,
-    )
+    [
+        a[0] ^ d[0],
+        a[1] ^ d[1],
+        a[2] ^ d[2],
+        a[3] ^ d[3],
+        a[4] ^ d[4],
+        a[5] ^ d[0],
+        a[6] ^ d[1],
+        a[7] ^ d[2],
+        a[8] ^ d[3],
+        a[9] ^ d[4],
+        a[10] ^ d[0],
+        a[11] ^ d[1],
+        a[12] ^ d[2],
+        a[13] ^ d[3],
+        a[14] ^ d[4],
+        a[15] ^ d[0],
+        a[16] ^ d[1],
+        a[17] ^ d[2],
+        a[18] ^ d[3],
+        a[19] ^ d[4],
+        a[20] ^ d[0],
+        a[21] ^ d[1],
+        a[22] ^ d[2],
+        a[23] ^ d[3],
+        a[24] ^ d[4],
+    ]
 }
 
 // θ (FIPS 202, section 3.2.1): each lane takes the parities of two neighbouring columns.
@@ -66,38 +72,47 @@ pub fn theta(a: [u64; 25]) -> [u64; 25]
     spread(a, column_effects(column_parities(a)))
 }
 
-// A lane turned left by n. A turn by 0 is its own case: a shift by the whole width would be undefined.
-fn rotated(x: u64, n: u32) -> u64
-    requires { n < 64 }
-    ensures { result ≡ rotl 64 x n }
+// ρ (FIPS 202, section 3.2.2): each lane turned left by its offset. Lane 0 has offset 0 and stays: a shift by the whole width would be undefined.
+pub fn rho(a: [u64; 25]) -> [u64; 25]
+    ensures { result ≡ rho 64 a }
 {
-    if n == 0 {
-        return x;
-    }
-    (x << n) | (x >> (64 - n))
+    [
+        a[0],
+        (a[1] << 1) | (a[1] >> 63),
+        (a[2] << 62) | (a[2] >> 2),
+        (a[3] << 28) | (a[3] >> 36),
+        (a[4] << 27) | (a[4] >> 37),
+        (a[5] << 36) | (a[5] >> 28),
+        (a[6] << 44) | (a[6] >> 20),
+        (a[7] << 6) | (a[7] >> 58),
+        (a[8] << 55) | (a[8] >> 9),
+        (a[9] << 20) | (a[9] >> 44),
+        (a[10] << 3) | (a[10] >> 61),
+        (a[11] << 10) | (a[11] >> 54),
+        (a[12] << 43) | (a[12] >> 21),
+        (a[13] << 25) | (a[13] >> 39),
+        (a[14] << 39) | (a[14] >> 25),
+        (a[15] << 41) | (a[15] >> 23),
+        (a[16] << 45) | (a[16] >> 19),
+        (a[17] << 15) | (a[17] >> 49),
+        (a[18] << 21) | (a[18] >> 43),
+        (a[19] << 8) | (a[19] >> 56),
+        (a[20] << 18) | (a[20] >> 46),
+        (a[21] << 2) | (a[21] >> 62),
+        (a[22] << 61) | (a[22] >> 3),
+        (a[23] << 56) | (a[23] >> 8),
+        (a[24] << 14) | (a[24] >> 50),
+    ]
 }
 
-// ρ and π (FIPS 202, sections 3.2.2 and 3.2.3) in one walk: the lane that is held is put down where π takes it, turned by the offset of the place it
-// comes from, and the lane that stood there is held next. The walk begins and ends at place 1; the lane at place 0 stays.
-pub fn rho_pi(a: [u64; 25]) -> [u64; 25]
-    ensures { result ≡ pi (rho 64 a) }
+// π (FIPS 202, section 3.2.3): each lane moves to its new place.
+pub fn pi(a: [u64; 25]) -> [u64; 25]
+    ensures { result ≡ pi a }
 {
-    // With both tables in locals the compiler writes out all 24 steps; with computed places it leaves a loop, eight times slower.
-    let path = tables::PATH;
-    let offsets = tables::OFFSETS;
-    let mut b = a;
-    let mut held = b[1];
-    let mut from: usize = 1;
-    let mut t: usize = 0;
-    while t < 24 {
-        let to = path[t];
-        let next = b[to];
-        b[to] = rotated(held, offsets[from]);
-        held = next;
-        from = to;
-        t += 1;
-    }
-    b
+    [
+        a[0], a[6], a[12], a[18], a[24], a[3], a[9], a[10], a[16], a[22], a[1], a[7], a[13], a[19],
+        a[20], a[4], a[5], a[11], a[17], a[23], a[2], a[8], a[14], a[15], a[21],
+    ]
 }
 
 // χ on one row: the five lanes that start at place i. Each takes what two lanes to its right had before, so the row is kept aside while it is
@@ -136,30 +151,21 @@ pub fn iota(a: [u64; 25], constant: u64) -> [u64; 25]
 fn one_round(a: [u64; 25], constant: u64) -> [u64; 25]
     ensures { result ≡ round 64 constant a }
 {
-    iota(chi(rho_pi(theta(a))), constant)
+    iota(chi(pi(rho(theta(a)))), constant)
 }
 
-// Keccak-f[1600] (FIPS 202, sections 3.3 and 3.4): all 24 rounds, on lanes where they stand.
-pub fn permute(a: &mut [u64; 25])
-    ensures { (a.new ≡ f1600 a.old) × (length a.new ≡ 25) }
+// Keccak-f[1600] (FIPS 202, sections 3.3 and 3.4): all 24 rounds.
+pub fn permuted(a: [u64; 25]) -> [u64; 25]
+    ensures { result ≡ f1600 a }
 {
     // The compiler writes a const array out on the stack wherever a variable indexes it, so it is copied once, before the loop.
     let table = tables::CONSTANTS;
-    let mut b = *a;
+    let mut b = a;
     let mut k: usize = 0;
     while k < 24 {
         let next = one_round(b, table[k]);
         b = next;
         k += 1;
     }
-    *a = b;
-}
-
-// The same on lanes by value.
-pub fn permuted(a: [u64; 25]) -> [u64; 25]
-    ensures { result ≡ f1600 a }
-{
-    let mut b = a;
-    permute(&mut b);
     b
 }

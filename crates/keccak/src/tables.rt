@@ -1,16 +1,10 @@
-// The tables that FIPS 202 gives by rules, each proved equal to its rule.
+// The two tables that FIPS 202 generates by rules, each proved equal to its rule.
 ghost use Rattle.std.specs.Prelude.{◌≡◌};
 ghost use Rattle.keccak.specs.Tables.{offsets, constants};
-ghost use Rattle.keccak.specs.Steps.{places};
 
-// The offsets of ρ, lane by lane.
-pub const OFFSETS: [u32; 25] = [
+// The offsets of ρ, lane by lane; `rho` has them in its shifts.
+const OFFSETS: [u32; 25] = [
     0, 1, 62, 28, 27, 36, 44, 6, 55, 20, 3, 10, 43, 25, 39, 41, 45, 15, 21, 8, 18, 2, 61, 56, 14,
-];
-
-// Where π takes the lane from place 1, where it takes the lane from there, and so on: 24 places, the last of which is place 1 again.
-pub const PATH: [usize; 24] = [
-    10, 7, 11, 17, 18, 3, 5, 16, 8, 21, 24, 4, 15, 23, 19, 13, 12, 2, 20, 14, 22, 9, 6, 1,
 ];
 
 // The constants of ι, round by round.
@@ -46,13 +40,6 @@ pub fn offset_table() -> [u32; 25]
     ensures { result ≡ offsets 64 }
 {
     OFFSETS
-}
-
-// The path is what its rule gives: the offsets' own walk.
-pub fn path_table() -> [usize; 24]
-    ensures { result ≡ places 24 1 0 }
-{
-    PATH
 }
 
 // The constants are what their rule gives: a feedback register.

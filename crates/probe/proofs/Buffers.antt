@@ -3,12 +3,13 @@ use Prim.Native.Nat.{ℕ}
 use mathlib.Core.Path.{◌≡◌, ap, ◌∙◌}
 use mathlib.Core.List.{List}
 use lib.ListN.{length}
-use Rattle.refusal.specs.Seen as calls
 use Rattle.spongewrap.specs.Desk.{desk}
+use Rattle.spongewrap.specs.Sessions as sessions
 use Rattle.spongewrap.specs.Sessions.{wraps, unwraps}
 use Rattle.spongewrap.specs.declared.Session.{Session}
 use Rattle.spongewrap.specs.declared.Answer.{Answer}
 use Rattle.bundle.specs.Format.{version1}
+use Rattle.bundle.specs.Answers as bundles
 use Rattle.bundle.specs.Opening.{opens_entry}
 use Rattle.bundle.specs.Writing.{starts, adds}
 use Rattle.bundle.specs.declared.Reply.{Reply}
@@ -25,18 +26,18 @@ module _ (i i' o o' : List ℕ) (s : Session) (h : length i ≡ image_length) (z
   over_image_lem shown call w u e f = right_length image_length i o u (shown (call (session_of i))) h (f ∙ ap shown (e ∙ ap call z))
 
   module _ (a : Answer) (f : i' ≡ image_of a.session) where
-    pub wrapped_is : (k b : List ℕ) → calls.seen a o' ≡ wraps desk s k b o → seen a.number i' o' ≡ sized image_length i o (of_session (wraps desk (session_of i) k b o))
-    wrapped_is k b e = over_image_lem of_session (λ r. wraps desk r k b o) (calls.seen a o') (seen a.number i' o') e (rw f)
+    pub wrapped_is : (k b : List ℕ) → sessions.seen a o' ≡ wraps desk s k b o → seen a.number i' o' ≡ sized image_length i o (of_session (wraps desk (session_of i) k b o))
+    wrapped_is k b e = over_image_lem of_session (λ r. wraps desk r k b o) (sessions.seen a o') (seen a.number i' o') e (rw f)
 
-    pub unwrapped_is : (k c t : List ℕ) → calls.seen a o' ≡ unwraps desk s k c t o → seen a.number i' o' ≡ sized image_length i o (of_session (unwraps desk (session_of i) k c t o))
-    unwrapped_is k c t e = over_image_lem of_session (λ r. unwraps desk r k c t o) (calls.seen a o') (seen a.number i' o') e (rw f)
+    pub unwrapped_is : (k c t : List ℕ) → sessions.seen a o' ≡ unwraps desk s k c t o → seen a.number i' o' ≡ sized image_length i o (of_session (unwraps desk (session_of i) k c t o))
+    unwrapped_is k c t e = over_image_lem of_session (λ r. unwraps desk r k c t o) (sessions.seen a o') (seen a.number i' o') e (rw f)
 
   module _ (a : Reply) (n : ℕ) (f : i' ≡ image_of a.session) (g : n ≡ packed_answer a) where
-    pub entry_opened_is : (b : List ℕ) (place : ℕ) → calls.seen a o' ≡ opens_entry version1 s b place o → seen n i' o' ≡ sized image_length i o (of_bundle (opens_entry version1 (session_of i) b place o))
-    entry_opened_is b place e = over_image_lem of_bundle (λ r. opens_entry version1 r b place o) (calls.seen a o') (seen n i' o') e (rw (f, g))
+    pub entry_opened_is : (b : List ℕ) (place : ℕ) → bundles.seen a o' ≡ opens_entry version1 s b place o → seen n i' o' ≡ sized image_length i o (of_bundle (opens_entry version1 (session_of i) b place o))
+    entry_opened_is b place e = over_image_lem of_bundle (λ r. opens_entry version1 r b place o) (bundles.seen a o') (seen n i' o') e (rw (f, g))
 
-    pub started_is : (label : List ℕ) → calls.seen a o' ≡ starts version1 s label o → seen n i' o' ≡ sized image_length i o (of_bundle (starts version1 (session_of i) label o))
-    started_is label e = over_image_lem of_bundle (λ r. starts version1 r label o) (calls.seen a o') (seen n i' o') e (rw (f, g))
+    pub started_is : (label : List ℕ) → bundles.seen a o' ≡ starts version1 s label o → seen n i' o' ≡ sized image_length i o (of_bundle (starts version1 (session_of i) label o))
+    started_is label e = over_image_lem of_bundle (λ r. starts version1 r label o) (bundles.seen a o') (seen n i' o') e (rw (f, g))
 
-    pub added_is : (k b : List ℕ) → calls.seen a o' ≡ adds version1 s k b o → seen n i' o' ≡ sized image_length i o (of_bundle (adds version1 (session_of i) k b o))
-    added_is k b e = over_image_lem of_bundle (λ r. adds version1 r k b o) (calls.seen a o') (seen n i' o') e (rw (f, g))
+    pub added_is : (k b : List ℕ) → bundles.seen a o' ≡ adds version1 s k b o → seen n i' o' ≡ sized image_length i o (of_bundle (adds version1 (session_of i) k b o))
+    added_is k b e = over_image_lem of_bundle (λ r. adds version1 r k b o) (bundles.seen a o') (seen n i' o') e (rw (f, g))

@@ -2,7 +2,6 @@
 use mathlib.Core.Path.{◌≡◌, sym, ◌∙◌}
 use contract.Lifetimes.{Lfts}
 use Rattle.image.proofs.Outcomes.{parts}
-use Rattle.refusal.proofs.Seen as calls
 use Rattle.probe.proofs.hashing.probe_permute.Reads as permute
 use Rattle.probe.proofs.hashing.probe_permute_times.Reads as permute_times
 use Rattle.probe.proofs.hashing.probe_shake128.Reads as shake128
@@ -19,14 +18,6 @@ use Rattle.probe.proofs.bundles.probe_calls_of.Reads as calls_of
 use Rattle.probe.proofs.bundles.probe_open_entry.Reads as open_entry
 use Rattle.probe.proofs.bundles.probe_start.Reads as start
 use Rattle.probe.proofs.bundles.probe_add.Reads as add
-use Rattle.probe.proofs.codes.probe_cshake128.Reads as cshake128
-use Rattle.probe.proofs.codes.probe_cshake256.Reads as cshake256
-use Rattle.probe.proofs.codes.probe_kmac128.Reads as kmac128
-use Rattle.probe.proofs.codes.probe_kmac256.Reads as kmac256
-use Rattle.probe.proofs.codes.probe_kmacxof128.Reads as kmacxof128
-use Rattle.probe.proofs.codes.probe_kmacxof256.Reads as kmacxof256
-use Rattle.probe.proofs.codes.probe_kmac128_verify.Reads as kmac128_verify
-use Rattle.probe.proofs.codes.probe_kmac256_verify.Reads as kmac256_verify
 
 one_outcome : {A : Type 0} {x y z : A} → x ≡ z → y ≡ z → x ≡ y
 one_outcome e f = e ∙ sym f
@@ -98,35 +89,3 @@ start_outcome κs a x y s t e f = parts x y _ _ _ _ (one_outcome e f)
 pub add_outcome : (κs : Lfts 4) (a x y s t : _) → add.Post κs a x s → add.Post κs a y t
     → (x ≡ y) × (s.0.now ≡ t.0.now) × (s.1.1.1.0.now ≡ t.1.1.1.0.now)
 add_outcome κs a x y s t e f = parts x y _ _ _ _ (one_outcome e f)
-
--- ---- cSHAKE and KMAC
-
-pub cshake128_outcome : (κs : Lfts 4) (a x y s t : _) → cshake128.Post κs a x s → cshake128.Post κs a y t
-    → (x ≡ y) × (s.1.1.1.0.now ≡ t.1.1.1.0.now)
-cshake128_outcome κs a x y s t e f = calls.parts x y _ _ (one_outcome e f)
-
-pub cshake256_outcome : (κs : Lfts 4) (a x y s t : _) → cshake256.Post κs a x s → cshake256.Post κs a y t
-    → (x ≡ y) × (s.1.1.1.0.now ≡ t.1.1.1.0.now)
-cshake256_outcome κs a x y s t e f = calls.parts x y _ _ (one_outcome e f)
-
-pub kmac128_outcome : (κs : Lfts 4) (a x y s t : _) → kmac128.Post κs a x s → kmac128.Post κs a y t
-    → (x ≡ y) × (s.1.1.1.0.now ≡ t.1.1.1.0.now)
-kmac128_outcome κs a x y s t e f = calls.parts x y _ _ (one_outcome e f)
-
-pub kmac256_outcome : (κs : Lfts 4) (a x y s t : _) → kmac256.Post κs a x s → kmac256.Post κs a y t
-    → (x ≡ y) × (s.1.1.1.0.now ≡ t.1.1.1.0.now)
-kmac256_outcome κs a x y s t e f = calls.parts x y _ _ (one_outcome e f)
-
-pub kmacxof128_outcome : (κs : Lfts 4) (a x y s t : _) → kmacxof128.Post κs a x s → kmacxof128.Post κs a y t
-    → (x ≡ y) × (s.1.1.1.0.now ≡ t.1.1.1.0.now)
-kmacxof128_outcome κs a x y s t e f = calls.parts x y _ _ (one_outcome e f)
-
-pub kmacxof256_outcome : (κs : Lfts 4) (a x y s t : _) → kmacxof256.Post κs a x s → kmacxof256.Post κs a y t
-    → (x ≡ y) × (s.1.1.1.0.now ≡ t.1.1.1.0.now)
-kmacxof256_outcome κs a x y s t e f = calls.parts x y _ _ (one_outcome e f)
-
-pub kmac128_verify_outcome : (κs : Lfts 4) (a x y s t : _) → kmac128_verify.Post κs a x s → kmac128_verify.Post κs a y t → x ≡ y
-kmac128_verify_outcome κs a x y s t e f = one_outcome e f
-
-pub kmac256_verify_outcome : (κs : Lfts 4) (a x y s t : _) → kmac256_verify.Post κs a x s → kmac256_verify.Post κs a y t → x ≡ y
-kmac256_verify_outcome κs a x y s t e f = one_outcome e f

@@ -1,7 +1,8 @@
 -- Calls on bundles: their answers, each in one number.
-use Rattle.std.specs.Prelude.{ℕ, ◌+◌, ◌*◌, ◌%◌, ◌^◌, List, [], ◌∷◌}
+use Rattle.std.specs.Prelude.{ℕ, ◌+◌, ◌*◌, ◌%◌, ◌^◌, List, [], ◌∷◌, get_or}
 use Rattle.refusal.specs.Rows.{by}
-use Rattle.refusal.specs.Seen as calls
+use Rattle.bundle.specs.Answers as bundles
+use Rattle.bundle.specs.Answers.{Told}
 use Rattle.bundle.specs.declared.Reply.{Reply}
 use Rattle.bundle.specs.declared.Entry.{Entry}
 use Rattle.bundle.specs.declared.Entry.TheVariants.{Whole, Short, Large, Past}
@@ -12,14 +13,18 @@ use Rattle.image.specs.Calls.{Seen, seen}
 abbrev pub packed : ℕ → ℕ → ℕ
 packed number place = number + place % 2 ^ 56 * 256
 
+-- a survey's number of entries, or else a refusal's place
+abbrev pub packed_told : Told → ℕ
+packed_told t = packed t.number (get_or t.values 0 t.place)
+
 -- ---- the entry at a place
 
 -- its header's length, its body's and the next place, eight bytes each; or what its cause is, and the buffer e as it was
 abbrev pub of_entry : List ℕ → Entry → Seen
 of_entry e (Whole header body next) = seen 0 (field_bytes ((8, header) ∷ (8, body) ∷ (8, next) ∷ [])) []
-of_entry e (Short place) = seen 1 e []
-of_entry e (Large place) = seen 2 e []
-of_entry e (Past place) = seen 3 e []
+of_entry e Short = seen 1 e []
+of_entry e Large = seen 2 e []
+of_entry e Past = seen 3 e []
 
 -- ---- calls on the session that an image holds
 
@@ -27,5 +32,5 @@ of_entry e (Past place) = seen 3 e []
 abbrev pub packed_answer : Reply → ℕ
 packed_answer a = packed a.number (by a.number a.place a.next)
 
-abbrev pub of_bundle : calls.Seen Reply → Seen
-of_bundle w = seen (packed_answer w.answer) (image_of w.answer.session) w.out
+abbrev pub of_bundle : bundles.Seen → Seen
+of_bundle w = seen (packed_answer w.answer) (image_of w.answer.session) w.buffer

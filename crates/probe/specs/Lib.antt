@@ -1,4 +1,3 @@
 pub mod States
 pub mod Sessions
 pub mod Bundles
-pub mod Codes

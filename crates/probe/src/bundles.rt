@@ -1,5 +1,5 @@
 // Bundles: each answer in one number.
-ghost use Rattle.std.specs.Prelude.{◌≡◌, [], get_or};
+ghost use Rattle.std.specs.Prelude.{◌≡◌, []};
 ghost use Rattle.spongewrap.specs.Sessions.{cost};
 ghost use Rattle.bundle.specs.Format.{version1, bundle_rate, entry_at};
 ghost use Rattle.bundle.specs.Survey.{surveys};
@@ -7,7 +7,7 @@ ghost use Rattle.bundle.specs.Opening.{opens_entry};
 ghost use Rattle.bundle.specs.Writing.{starts, adds};
 ghost use Rattle.image.specs.Image.{image_length, session_of};
 ghost use Rattle.image.specs.Calls.{seen, sized};
-ghost use Rattle.probe.specs.Bundles.{packed, packed_answer, of_entry, of_bundle};
+ghost use Rattle.probe.specs.Bundles.{packed, packed_told, packed_answer, of_entry, of_bundle};
 
 use bundle::{Entry, Reply, Surveyed};
 
@@ -32,10 +32,9 @@ fn pack_answer(answer: Reply) -> u64
     pack(0, answer.next)
 }
 
-// A survey's number of entries, or else a refusal's place.
 #[unsafe(no_mangle)]
 pub extern "C" fn probe_survey(bundle: &[u8]) -> u64
-    ensures { let t = surveys version1 bundle.now in result ≡ packed t.number (get_or t.values 0 t.place) }
+    ensures { result ≡ packed_told (surveys version1 bundle.now) }
 {
     let answer = bundle::survey(bundle);
     match answer {
@@ -60,9 +59,9 @@ pub extern "C" fn probe_entry_at(bundle: &[u8], place: u64, entry: &mut [u8]) ->
             fields::put_u64(entry, 16, next as u64);
             0
         }
-        Entry::Short { place: _ } => 1,
-        Entry::Large { place: _ } => 2,
-        Entry::Past { place: _ } => 3,
+        Entry::Short => 1,
+        Entry::Large => 2,
+        Entry::Past => 3,
     }
 }
 

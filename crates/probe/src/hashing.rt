@@ -37,7 +37,8 @@ fn permuted_times(a: [u64; 25], times: u64) -> [u64; 25]
     let mut b = a;
     let mut left = times;
     while 0 < left {
-        keccak::permute(&mut b);
+        let next = keccak::permuted(b);
+        b = next;
         left -= 1;
     }
     b

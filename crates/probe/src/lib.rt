@@ -3,7 +3,6 @@ mod hashing; // hashing.rt: the permutation and the hashes
 mod object; // object.rt: the duplex object
 mod sessions; // sessions.rt: sessions that travel as images
 mod bundles; // bundles.rt: bundles
-mod codes; // codes.rt: cSHAKE and KMAC
 
 ghost use Rattle.std.specs.Prelude.{◌≡◌, ◌≤◌, length};
 ghost use Rattle.probe.specs.States.{lanes_of};

@@ -3,7 +3,7 @@ ghost use Rattle.std.specs.Prelude.{◌≡◌, [], length};
 ghost use Rattle.sponge.specs.Sponge.{zeros};
 ghost use Rattle.duplex.specs.Object.{duplexes};
 ghost use Rattle.image.specs.Calls.{seen, sized};
-ghost use Rattle.probe.specs.States.{object_of, duplex_of, of_object};
+ghost use Rattle.probe.specs.States.{object_length, object_of, duplex_of, of_object};
 
 use crate::{STATE, lanes_of};
 use duplex::Duplex;
@@ -13,7 +13,7 @@ const OBJECT: usize = 202;
 
 // The duplex object that its bytes hold.
 fn object_of(object: &[u8]) -> Duplex
-    requires { length object.now ≡ 202 }
+    requires { length object.now ≡ object_length }
     ensures { result ≡ duplex_of object.now }
 {
     let lanes = lanes_of(object);
@@ -25,7 +25,7 @@ fn object_of(object: &[u8]) -> Duplex
 
 // A duplex object laid over the whole of its bytes.
 fn put_object(duplex: Duplex, object: &mut [u8])
-    requires { length object.old ≡ 202 }
+    requires { length object.old ≡ object_length }
     ensures { object.new ≡ object_of duplex }
 {
     let lanes = duplex.lanes;
@@ -36,7 +36,7 @@ fn put_object(duplex: Duplex, object: &mut [u8])
 // A fresh duplex object at any rate.
 #[unsafe(no_mangle)]
 pub extern "C" fn probe_new_duplex(rate: u16, object: &mut [u8]) -> u8
-    ensures { seen result object.new [] ≡ sized 202 object.old [] (seen 0 (object_of (record { lanes = zeros; rate = rate })) []) }
+    ensures { seen result object.new [] ≡ sized object_length object.old [] (seen 0 (object_of (record { lanes = zeros; rate = rate })) []) }
 {
     if object.len() != OBJECT {
         return refusal::NO_ROOM;
@@ -53,7 +53,7 @@ pub extern "C" fn probe_duplexing(
     frame: bool,
     out: &mut [u8],
 ) -> u8
-    ensures { seen result object.new out.new ≡ sized 202 object.old out.old (of_object (duplexes (duplex_of object.old) piece.now frame out.old)) }
+    ensures { seen result object.new out.new ≡ sized object_length object.old out.old (of_object (duplexes (duplex_of object.old) piece.now frame out.old)) }
 {
     if object.len() != OBJECT {
         return refusal::NO_ROOM;

@@ -1,7 +1,7 @@
 // Sessions that travel as images: what the desks' own exports leave out.
 ghost use Rattle.std.specs.Prelude.{◌≡◌, []};
 ghost use Rattle.spongewrap.specs.Desk.{desk, default_rate, default_tag};
-ghost use Rattle.refusal.specs.Seen as calls;
+ghost use Rattle.spongewrap.specs.Sessions as sessions;
 ghost use Rattle.spongewrap.specs.Sessions.{opens, wraps, unwraps};
 ghost use Rattle.image.specs.Image.{image_length, session_of};
 ghost use Rattle.image.specs.Calls.{seen, sized, opens_image};
@@ -20,7 +20,7 @@ pub extern "C" fn probe_open(rate: u16, tag: u16, key: &[u8], image: &mut [u8]) 
 // The open that takes no settings. A refused one leaves its session of zeros in the image.
 #[unsafe(no_mangle)]
 pub extern "C" fn probe_default_open(key: &[u8], image: &mut [u8]) -> u8
-    ensures { seen result image.new [] ≡ sized image_length image.old [] (of_session (calls.seen (opens desk key.now default_rate default_tag) [])) }
+    ensures { seen result image.new [] ≡ sized image_length image.old [] (of_session (sessions.seen (opens desk key.now default_rate default_tag) [])) }
 {
     if image.len() != image::LENGTH {
         return refusal::NO_ROOM;

@@ -16,6 +16,12 @@ unfoldable pub by : {A : Type 0} → ℕ → A → A → A
 by zero old new = new
 by (suc n) old new = old
 
--- ---- a test that many rows have: a number is under the least or over the most that is taken
+-- ---- tests that many rows have
+
+-- under the least or over the most that is taken
 abbrev pub outside : ℕ → ℕ → ℕ → Bool
 outside least most n = ltb n least || ltb most n
+
+-- a lent output has no room for n bytes
+abbrev pub short : ℕ → ℕ → Bool
+short out n = ltb out n

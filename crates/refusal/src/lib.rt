@@ -1,7 +1,6 @@
 // What is refused, and by which number. Nobody else spells a number out; a bundle's own, from 9 on, are the format's.
-ghost use Rattle.std.specs.Prelude.{◌≡◌, ◌+◌, ltb};
-ghost use Rattle.refusal.specs.Rows.{outside};
-ghost use Rattle.refusal.specs.Limits.{bad_size};
+ghost use Rattle.std.specs.Prelude.{◌≡◌, ◌+◌};
+ghost use Rattle.refusal.specs.Rows.{outside, short};
 
 pub const BAD_RATE: u8 = 1;
 
@@ -19,11 +18,6 @@ pub const FULL: u8 = 7;
 
 pub const WRONG_TAG: u8 = 8;
 
-// Keys, tags and codes have so many bytes at least and at most.
-const LEAST_SIZE: usize = 16;
-
-const MOST_SIZE: usize = 256;
-
 // Whether a number is under the least or over the most that is taken.
 pub fn outside(least: usize, most: usize, n: usize) -> bool
     ensures { result ≡ outside least most n }
@@ -31,16 +25,9 @@ pub fn outside(least: usize, most: usize, n: usize) -> bool
     n < least || most < n
 }
 
-// Whether a key, a tag or a code has a length that is not taken.
-pub fn bad_size(n: usize) -> bool
-    ensures { result ≡ bad_size n }
-{
-    outside(LEAST_SIZE, MOST_SIZE, n)
-}
-
 // Whether a lent output lacks room for two strings. The sum of their lengths could wrap, so it is not made.
 pub fn is_short(out: usize, first: usize, second: usize) -> bool
-    ensures { result ≡ ltb out (first + second) }
+    ensures { result ≡ short out (first + second) }
 {
     if out < first {
         return true;

@@ -3,12 +3,11 @@ use mathlib.Core.Path.{◌≡◌, sym, ◌∙◌}
 use mathlib.Core.List.{List}
 use Prim.Native.Nat.{ℕ}
 use contract.Lifetimes.{Lfts}
-use Rattle.refusal.specs.Seen.{seen}
 use Rattle.spongewrap.specs.Desk.{desk}
-use Rattle.spongewrap.specs.Sessions.{wraps, unwraps}
+use Rattle.spongewrap.specs.Sessions.{seen, wraps, unwraps}
 use Rattle.spongewrap.specs.declared.Session.{Session}
 use Rattle.spongewrap.specs.declared.Answer.{Answer}
-use Rattle.refusal.proofs.Seen.{parts}
+use Rattle.spongewrap.proofs.Outcomes.{parts}
 use Rattle.running.proofs.wrap_lent.Reads as wrap
 use Rattle.running.proofs.unwrap_lent.Reads as unwrap
 

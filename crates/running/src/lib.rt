@@ -1,7 +1,6 @@
 // The running session, advanced where it stands: thin functions over the calls that take a session and hand one back.
 ghost use Rattle.std.specs.Prelude.{◌≡◌};
-ghost use Rattle.refusal.specs.Seen.{seen};
-ghost use Rattle.spongewrap.specs.Sessions.{wraps, unwraps};
+ghost use Rattle.spongewrap.specs.Sessions.{seen, wraps, unwraps};
 ghost use Rattle.spongewrap.specs.Desk.{desk};
 
 use spongewrap::{Answer, Session};

@@ -9,4 +9,3 @@ pub mod Outcomes
 pub mod PadBits
 pub mod Lanes
 pub mod Taken
-pub mod Bytewise

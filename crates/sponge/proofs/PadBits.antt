@@ -44,7 +44,7 @@ high s h =
     let e : (s + 128) / 128 % 2 ≡ 1 = omega arith in
     cc (kept 0 64 s, kept 1 32 s, kept 2 16 s, kept 3 8 s, kept 4 4 s, kept 5 2 s, kept 6 1 s)
 
-pub zeros_front : (k m : ℕ) → take k (zero_bits (k + m)) ≡ zero_bits k
+zeros_front : (k m : ℕ) → take k (zero_bits (k + m)) ≡ zero_bits k
 zeros_front k m = rw (← replicate-append-replicate {A = ℕ} k m 0) (take_at (zero_bits k) (zero_bits m) k (length-replicate k 0))
 
 zeros_join : (a b : ℕ) (l : List ℕ) → zero_bits a ++ (zero_bits b ++ l) ≡ zero_bits (a + b) ++ l

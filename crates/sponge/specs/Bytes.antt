@@ -1,13 +1,9 @@
 -- Bytes and lanes of w bits: byte i of a block goes to lane i / (w / 8), at bits 8 (i mod (w / 8)) upward
 -- (FIPS 202, sections 3.1.2 and B.1).
-use Rattle.std.specs.Prelude.{ℕ, ◌+◌, ◌*◌, ◌/◌, ◌%◌, ◌^◌, ◌<◌, List, get_or}
+use Rattle.std.specs.Prelude.{ℕ, ◌+◌, ◌*◌, ◌/◌, ◌%◌, ◌^◌, List, get_or}
 use Rattle.std.specs.Int.Bits.{bit_xor}
 use Rattle.keccak.specs.Lanes.{sum}
 use Rattle.sponge.specs.Table.{table}
-
--- every element is a byte
-abbrev pub AreBytes : List ℕ → Type 0
-AreBytes s = (i : ℕ) → get_or s i 0 < 256
 
 -- lane j of a block; bytes past the block's end count as 0
 unfoldable pub lane_of : ℕ → List ℕ → ℕ → ℕ

@@ -36,45 +36,26 @@ fn lane_of(b: &[u8], j: usize) -> u64
     )
 }
 
-// A block of whole lanes xored into the first lanes of a state, where it stands.
-fn mix(a: &mut [u64; 25], b: &[u8])
-    requires { (length a.old ≡ 25) × (length b.now % 8 ≡ 0) × (length b.now ≤ 200) }
-    ensures { a.new ≡ mixed 64 a.old b.now }
-{
-    let mut j = 0;
-    while j < b.len() / 8 {
-        a[j] = a[j] ^ lane_of(b, j);
-        j += 1;
-    }
-}
-
-// The same on a state by value.
+// A block of whole lanes xored into the first lanes of a state.
 pub fn mixed(a: [u64; 25], b: &[u8]) -> [u64; 25]
     requires { (length b.now % 8 ≡ 0) × (length b.now ≤ 200) }
     ensures { result ≡ mixed 64 a b.now }
 {
     let mut r = a;
-    mix(&mut r, b);
+    let mut j = 0;
+    while j < b.len() / 8 {
+        r[j] = r[j] ^ lane_of(b, j);
+        j += 1;
+    }
     r
 }
 
-// One block absorbed into a state where it stands.
-pub fn absorb_block(a: &mut [u64; 25], b: &[u8])
-    requires { (length a.old ≡ 25) × (length b.now % 8 ≡ 0) × (length b.now ≤ 200) }
-    ensures { (a.new ≡ absorb_block 64 f1600 a.old b.now) × (length a.new ≡ 25) }
-{
-    mix(a, b);
-    keccak::permute(a);
-}
-
-// The same on a state by value.
+// One block absorbed.
 pub fn absorbed_block(a: [u64; 25], b: &[u8]) -> [u64; 25]
     requires { (length b.now % 8 ≡ 0) × (length b.now ≤ 200) }
     ensures { result ≡ absorb_block 64 f1600 a b.now }
 {
-    let mut r = a;
-    absorb_block(&mut r, b);
-    r
+    keccak::permuted(mixed(a, b))
 }
 
 // What is left of a piece after its whole lanes, and the byte `suffix` after that, as a lane.
@@ -92,36 +73,26 @@ fn rest_of(piece: &[u8], suffix: u8) -> u64
     x
 }
 
-// A piece padded to a block of `rate` bytes and xored into the first lanes of a state, where it stands.
-fn mix_piece(a: &mut [u64; 25], piece: &[u8], suffix: u8, rate: usize)
-    requires { (length a.old ≡ 25) × (length piece.now < rate) × (rate ≤ 200) × (rate % 8 ≡ 0) × (suffix < 128) }
-    ensures { a.new ≡ mixed 64 a.old (padded rate suffix piece.now) }
+// A piece padded to a block of `rate` bytes and xored into the first lanes of a state.
+fn mixed_piece(a: [u64; 25], piece: &[u8], suffix: u8, rate: usize) -> [u64; 25]
+    requires { (length piece.now < rate) × (rate ≤ 200) × (rate % 8 ≡ 0) × (suffix < 128) }
+    ensures { result ≡ mixed 64 a (padded rate suffix piece.now) }
 {
     let k = piece.len() / 8;
     let n = 8 * k;
-    mix(a, &piece[..n]);
-    a[k] = a[k] ^ rest_of(piece, suffix);
+    let mut r = mixed(a, &piece[..n]);
+    r[k] = r[k] ^ rest_of(piece, suffix);
     let last = rate / 8 - 1;
-    a[last] = a[last] ^ 0x8000_0000_0000_0000;
+    r[last] = r[last] ^ 0x8000_0000_0000_0000;
+    r
 }
 
-// A piece padded and absorbed into a state where it stands.
-pub fn absorb_piece(a: &mut [u64; 25], piece: &[u8], suffix: u8, rate: usize)
-    requires { (length a.old ≡ 25) × (length piece.now < rate) × (rate ≤ 200) × (rate % 8 ≡ 0) × (suffix < 128) }
-    ensures { (a.new ≡ absorb_block 64 f1600 a.old (padded rate suffix piece.now)) × (length a.new ≡ 25) }
-{
-    mix_piece(a, piece, suffix, rate);
-    keccak::permute(a);
-}
-
-// The same on a state by value.
+// A piece padded and absorbed.
 pub fn absorbed_piece(a: [u64; 25], piece: &[u8], suffix: u8, rate: usize) -> [u64; 25]
     requires { (length piece.now < rate) × (rate ≤ 200) × (rate % 8 ≡ 0) × (suffix < 128) }
     ensures { result ≡ absorb_block 64 f1600 a (padded rate suffix piece.now) }
 {
-    let mut r = a;
-    absorb_piece(&mut r, piece, suffix, rate);
-    r
+    keccak::permuted(mixed_piece(a, piece, suffix, rate))
 }
 
 // A whole message absorbed from the state a: its whole blocks as they are, and the rest padded.
@@ -133,7 +104,8 @@ fn absorbed_message(a: [u64; 25], message: &[u8], suffix: u8, rate: usize) -> [u
     let mut at = 0;
     while rate <= message.len() - at {
         let e = at + rate;
-        absorb_block(&mut st, &message[at..e]);
+        let next = absorbed_block(st, &message[at..e]);
+        st = next;
         at = e;
     }
     absorbed_piece(st, &message[at..], suffix, rate)
@@ -175,7 +147,7 @@ pub fn put_bytes(a: [u64; 25], out: &mut [u8])
 }
 
 // The whole slice filled from a state: `rate` bytes, then a permutation, and so on.
-pub fn squeeze_into(a: [u64; 25], rate: usize, out: &mut [u8])
+fn squeeze_into(a: [u64; 25], rate: usize, out: &mut [u8])
     requires { (0 < rate) × (rate ≤ 200) }
     ensures { out.new ≡ squeeze 64 f1600 rate a (length out.old) }
 {
@@ -191,8 +163,7 @@ pub fn squeeze_into(a: [u64; 25], rate: usize, out: &mut [u8])
     put_bytes(st, &mut out[at..]);
 }
 
-// The hash of a message at a rate, by its suffix byte. It fills the lent slice, which may be empty.
-pub fn hash_into(message: &[u8], suffix: u8, rate: usize, out: &mut [u8])
+fn hash_into(message: &[u8], suffix: u8, rate: usize, out: &mut [u8])
     requires { (0 < rate) × (rate ≤ 200) × (rate % 8 ≡ 0) × (suffix < 128) }
     ensures { out.new ≡ hash 64 f1600 rate suffix message.now (length out.old) }
 {

@@ -5,8 +5,7 @@ use native.Mathlib.Omega.{arith}
 use mathlib.Core.Path.{◌≡◌, refl, sym, ap}
 use mathlib.Core.List.{List, [], ◌∷◌, ◌++◌, map}
 use lib.ListN.{length, get_or, drop}
-use Rattle.refusal.specs.Seen.{seen}
-use Rattle.spongewrap.specs.Sessions.{opens, wraps, unwraps}
+use Rattle.spongewrap.specs.Sessions.{opens, seen, wraps, unwraps}
 use Rattle.spongewrap.specs.History.{Call, SealedPair, content, after_calls, accepted_pairs, pair_blocks, pairs_blocks, history, Tells}
 use Rattle.spongewrap.specs.Kinds.{Kind}
 use Rattle.spongewrap.specs.declared.Session.{Session}

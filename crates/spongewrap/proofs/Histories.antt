@@ -5,7 +5,6 @@ use native.Mathlib.Omega.{arith}
 use mathlib.Core.Path.{◌≡◌, refl, sym, ap, ◌∙◌}
 use mathlib.Core.List.{List, [], ◌∷◌, ◌++◌, append_assoc, append-nil}
 use lib.ListN.{length, take, drop, replicate, length-append, length-replicate, length-take}
-use Rattle.refusal.specs.Seen.{Seen}
 use Rattle.refusal.specs.Rows.{by}
 use Rattle.refusal.proofs.Rows.{made}
 use Rattle.sponge.specs.Pieces.{piece, blocks_of, before}
@@ -20,19 +19,14 @@ use Rattle.duplex.proofs.Open.{length-opened}
 use Rattle.duplex.proofs.Masks.{sealed_piece, opened_piece}
 use Rattle.duplex.proofs.Draw.{after_blocks, drawn_piece}
 use Rattle.spongewrap.specs.SpongeWrap.{keyed, headed, bodied, ciphertext, tagged, left, plaintext}
-use Rattle.spongewrap.specs.Sessions.{none, fresh, opens, cost, advanced, next, sealing, tag_of, recovered}
-use Rattle.spongewrap.specs.History.{Call, answered, SealedPair, pair_with, after_calls, accepted_pairs, blanks, pair_blocks, pairs_blocks, history, pairs_cost, WholeBlocks, output, Output, Tells}
+use Rattle.spongewrap.specs.Sessions.{none, fresh, opens, cost, advanced, next, sealing, tag_of, recovered, Seen}
+use Rattle.spongewrap.specs.History.{Call, answered, SealedPair, pair_with, pair_of, after_calls, accepted_pairs, blanks, pair_blocks, pairs_blocks, history, pairs_cost, WholeBlocks, output, Output, Tells}
 use Rattle.spongewrap.specs.History.Call.{wrapping, unwrapping}
 use Rattle.spongewrap.specs.Kinds.{Kind}
 use Rattle.spongewrap.specs.declared.Session.{Session}
-use Rattle.spongewrap.specs.declared.Answer.{Answer}
 use Rattle.spongewrap.proofs.Passed.{open_fits, wrap_fits, unwrap_fits}
 use Rattle.spongewrap.proofs.Theorems.{open_number, wrap_number, wrap_kept, unwrap_kept, wrapped_is, unwrapped_is, unwrap_first, accepted_ready, unwrap_accepts_exactly, text_is, mark_is}
 use Rattle.spongewrap.proofs.Settle.{length-tag_of}
-
--- the pair of a call on the session s
-abbrev pair_of : Kind → Session → Call → SealedPair
-pair_of K s c = pair_with s.tag c (answered K s c).out
 
 -- ---- SpongeWrap where a plain sponge has absorbed the blocks B
 
@@ -168,9 +162,9 @@ module _ (K : Kind) where
 
     call_agrees : (c : Call) → (answered K s c).answer.number ≡ 0 → Agrees R t (B ++ pair_blocks R t (pair_of K s c)) (n + 1) (answered K s c).answer.session
     unfolding answered pair_with
-    call_agrees (wrapping h b o) e = rw (ap (λ (v : Seen Answer). v.answer.session) (wrapped_is K s h b o e)) (next_agrees _)
+    call_agrees (wrapping h b o) e = rw (ap (λ (v : Seen). v.answer.session) (wrapped_is K s h b o e)) (next_agrees _)
     call_agrees (unwrapping h c u o) e =
-        rw (ap (λ (v : Seen Answer). v.answer.session) (unwrapped_is K s h c u o e), (unwrap_first K s h c u o e).first) (next_agrees _)
+        rw (ap (λ (v : Seen). v.answer.session) (unwrapped_is K s h c u o e), (unwrap_first K s h c u o e).first) (next_agrees _)
 
     -- the session's strings are those of the sponge
     sealing_is : (h b : List ℕ) → sealing K s h b ≡ ciphertext K.w K.f R (sponge K.w K.f B) h b

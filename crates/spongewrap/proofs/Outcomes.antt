@@ -1,7 +1,10 @@
 -- Any two outcomes that a public contract (`Post`) allows of one call are equal: answers, and what the lent output holds.
-use mathlib.Core.Path.{◌≡◌, sym, ◌∙◌}
+use mathlib.Core.Path.{◌≡◌, sym, ap, ◌∙◌}
+use mathlib.Core.List.{List}
+use Prim.Native.Nat.{ℕ}
 use contract.Lifetimes.{Lfts}
-use Rattle.refusal.proofs.Seen.{parts}
+use Rattle.spongewrap.specs.Sessions.{Seen, seen}
+use Rattle.spongewrap.specs.declared.Answer.{Answer}
 use Rattle.spongewrap.proofs.Session.open.Reads as default
 use Rattle.spongewrap.proofs.open.Reads as opening
 use Rattle.spongewrap.proofs.wrap.Reads as wrap
@@ -13,7 +16,12 @@ use Rattle.spongewrap.proofs.orders.of_unwrap.Reads as of_unwrap
 use Rattle.spongewrap.proofs.orders.of_settings.Reads as of_settings
 use Rattle.spongewrap.proofs.orders.of_own.Reads as of_own
 use Rattle.spongewrap.proofs.orders.of_pair.Reads as of_pair
+use Rattle.spongewrap.proofs.orders.bad_size.Reads as bad_size
 use Rattle.spongewrap.proofs.orders.is_full.Reads as is_full
+
+-- what is seen says both its parts
+pub parts : (r r' : Answer) (o o' : List ℕ) → seen r o ≡ seen r' o' → (r ≡ r') × (o ≡ o')
+parts r r' o o' e = (ap (λ (v : Seen). v.answer) e, ap (λ (v : Seen). v.out) e)
 
 pub default_open_outcome : (κs : Lfts 1) (a x y s t : _) → default.Post κs a x s → default.Post κs a y t → x ≡ y
 default_open_outcome κs a x y s t e h = e ∙ sym h
@@ -51,6 +59,9 @@ of_own_outcome κs a x y s t e h = e ∙ sym h
 
 pub of_pair_outcome : (κs : Lfts 0) (a x y s t : _) → of_pair.Post κs a x s → of_pair.Post κs a y t → x ≡ y
 of_pair_outcome κs a x y s t e h = e ∙ sym h
+
+pub bad_size_outcome : (κs : Lfts 0) (a x y s t : _) → bad_size.Post κs a x s → bad_size.Post κs a y t → x ≡ y
+bad_size_outcome κs a x y s t e h = e ∙ sym h
 
 pub is_full_outcome : (κs : Lfts 0) (a x y s t : _) → is_full.Post κs a x s → is_full.Post κs a y t → x ≡ y
 is_full_outcome κs a x y s t e h = e ∙ sym h

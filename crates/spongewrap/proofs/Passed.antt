@@ -6,12 +6,11 @@ use mathlib.Core.List.{List, [], ◌∷◌, ◌++◌}
 use mathlib.Core.Bool.{Bool, true, false, not, ◌&&◌, and-true}
 use lib.Dec.{eqb, ltb, leb}
 use borrow.Author.Tests.{ltb-false, leb-false, eqb-true, le-ltb}
-use Rattle.refusal.specs.Rows.{pick, first, by}
+use Rattle.refusal.specs.Rows.{pick, first, by, short}
 use Rattle.refusal.proofs.Tests.{neither, inside}
 use Rattle.refusal.proofs.Rows.{kept, made, by_zero, Clear, all_clear, clear_first, clear_append, clear_parts, first-append}
 use Rattle.duplex.specs.Duplex.{Rate}
-use Rattle.refusal.specs.Limits.{least_size, most_size, bad_size}
-use Rattle.spongewrap.specs.Refusals.{most_header, most_body, most_pairs, bad_rate, full, open_rows, own_rows, part_rows, open_refusal, common_rows, wrap_refusal, ready_rows, unwrap_refusal, Fits}
+use Rattle.spongewrap.specs.Refusals.{least_size, most_size, most_header, most_body, most_pairs, bad_rate, bad_size, open_rows, rows_of, part_rows, open_refusal, common_rows, wrap_refusal, ready_rows, unwrap_refusal, Fits}
 use Rattle.spongewrap.specs.Kinds.{Rates, Kind}
 use Rattle.spongewrap.specs.declared.Session.{Session}
 
@@ -39,17 +38,17 @@ module _ (K : Kind) where
       }
 
   -- those, and then the output's
-  room : (s : Session) (h b o n : ℕ) → first (common_rows K s h b ++ (ltb o n, 6) ∷ []) ≡ 0 → Clear (common_rows K s h b) × (n ≤ o)
+  room : (s : Session) (h b o n : ℕ) → first (common_rows K s h b ++ (short o n, 6) ∷ []) ≡ 0 → Clear (common_rows K s h b) × (n ≤ o)
   room s h b o n e =
-      let k = clear_parts (common_rows K s h b) ((ltb o n, 6) ∷ []) (all_clear (common_rows K s h b ++ (ltb o n, 6) ∷ []) refl e) in
+      let k = clear_parts (common_rows K s h b) ((short o n, 6) ∷ []) (all_clear (common_rows K s h b ++ (short o n, 6) ∷ []) refl e) in
       (k.0, ltb-false o n k.1.0)
 
   -- the number that the session's own rows, and then the others, come to
   pub pair_is : (s : Session) (h b own r : ℕ) (x y z short : Bool) → x ≡ bad_rate K.rates s.rate → y ≡ bad_size s.tag
-      → own ≡ first (own_rows x y (full K.ceiling s.pairs s.calls)) → z ≡ short → r ≡ by own own (first (part_rows h b ++ (z, 6) ∷ []))
+      → own ≡ first (rows_of K.ceiling s x y) → z ≡ short → r ≡ by own own (first (part_rows h b ++ (z, 6) ∷ []))
       → r ≡ first (common_rows K s h b ++ (short, 6) ∷ [])
   pair_is s h b own r x y z short p q e i f =
-      f ∙ rw (e, p, q, i) (sym (first-append (own_rows (bad_rate K.rates s.rate) (bad_size s.tag) (full K.ceiling s.pairs s.calls)) (part_rows h b ++ (short, 6) ∷ []) refl))
+      f ∙ rw (e, p, q, i) (sym (first-append (rows_of K.ceiling s (bad_rate K.rates s.rate) (bad_size s.tag)) (part_rows h b ++ (short, 6) ∷ []) refl))
 
   -- a wrap that is not refused
   pub wrap_fits : (s : Session) (h b o : ℕ) → wrap_refusal K s h b o ≡ 0 → Fits K s h b × (b + s.tag ≤ o)
@@ -64,7 +63,7 @@ module _ (K : Kind) where
   pub may_unwrap : (s : Session) (h b o o' : ℕ) → wrap_refusal K s h b o ≡ 0 → b ≤ o' → first (ready_rows K s h b o') ≡ 0
   unfolding wrap_refusal
   may_unwrap s h b o o' e l =
-      clear_first (ready_rows K s h b o') (clear_append (common_rows K s h b) ((ltb o' b, 6) ∷ []) (room s h b o (b + s.tag) e).0 (le-ltb o' b l, tt))
+      clear_first (ready_rows K s h b o') (clear_append (common_rows K s h b) ((short o' b, 6) ∷ []) (room s h b o (b + s.tag) e).0 (le-ltb o' b l, tt))
 
   -- ---- an open that is not refused
 

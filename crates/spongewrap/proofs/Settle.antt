@@ -6,7 +6,6 @@ use mathlib.Core.List.{List, ◌++◌}
 use mathlib.Core.Bool.{Bool, true, false, not}
 use lib.ListN.{length, drop, length-append}
 use borrow.Author.Tests.{not-true, not-false}
-use Rattle.refusal.specs.Seen.{seen}
 use Rattle.refusal.specs.Rows.{pick, first, by}
 use Rattle.refusal.proofs.Rows.{kept}
 use Rattle.compare.specs.Same.{same}
@@ -17,7 +16,7 @@ use Rattle.duplex.proofs.Open.{length-opened}
 use Rattle.duplex.proofs.Draw.{length-drawn}
 use Rattle.spongewrap.specs.SpongeWrap.{headed, bodied, ciphertext, tagged, left, plaintext}
 use Rattle.spongewrap.specs.Refusals.{open_refusal, wrap_refusal, ready_rows, unwrap_refusal}
-use Rattle.spongewrap.specs.Sessions.{fresh, none, opens, advanced, next, sealing, tag_of, recovered, settled, wraps, foreign, unwraps}
+use Rattle.spongewrap.specs.Sessions.{fresh, none, opens, advanced, next, sealing, tag_of, recovered, seen, settled, wraps, foreign, unwraps}
 use Rattle.spongewrap.specs.Kinds.{Kind}
 use Rattle.spongewrap.specs.declared.Session.{Session}
 use Rattle.spongewrap.proofs.Passed.{wrap_fits, unwrap_fits, before_tag, at_tag}

@@ -6,7 +6,6 @@ use mathlib.Core.List.{List, [], ◌∷◌, ◌++◌, append_assoc}
 use mathlib.Core.Bool.{Bool, true, false, not}
 use lib.ListN.{length, take, drop, length-append, length-drop}
 use lib.Seq.{take_at, drop_at}
-use Rattle.refusal.specs.Seen.{Seen, seen}
 use Rattle.refusal.specs.Rows.{pick, first, by}
 use Rattle.refusal.proofs.Rows.{kept}
 use Rattle.compare.specs.Same.{same}
@@ -14,17 +13,16 @@ use Rattle.compare.proofs.Same.{same_eq, same_is, other_is}
 use Rattle.duplex.proofs.RoundTrip.{round_trip}
 use Rattle.spongewrap.specs.SpongeWrap.{headed, ciphertext, plaintext}
 use Rattle.spongewrap.specs.Refusals.{open_refusal, wrap_refusal, ready_rows, unwrap_refusal, Fits}
-use Rattle.spongewrap.specs.Sessions.{none, fresh, opens, next, sealing, tag_of, recovered, settled, wraps, foreign, unwraps}
+use Rattle.spongewrap.specs.Sessions.{none, fresh, opens, next, sealing, tag_of, recovered, Seen, seen, settled, wraps, foreign, unwraps}
 use Rattle.spongewrap.specs.Kinds.{Kind}
 use Rattle.spongewrap.specs.declared.Session.{Session}
-use Rattle.spongewrap.specs.declared.Answer.{Answer}
 use Rattle.spongewrap.proofs.Passed.{wrap_fits, unwrap_fits, may_unwrap, at_tag, all_but_tag}
 use Rattle.spongewrap.proofs.Settle.{settled_refused, settled_accepted, length-sealing, length-tag_of, length_wrapped, length-recovered}
 
 -- ---- any call
 
 -- the session and the output that were handed over
-pub record Kept (s : Session) (o : List ℕ) (v : Seen Answer) : Type 0 where
+pub record Kept (s : Session) (o : List ℕ) (v : Seen) : Type 0 where
   pub session : v.answer.session ≡ s
   pub out : v.out ≡ o
 
@@ -168,7 +166,7 @@ module _ (K : Kind) where
       fine = (wrap_fits K s (length h) (length b) (length o) (sym (wrap_number s h b o) ∙ e)).0
 
       out_is : (wraps K s h b o).out ≡ sealing K s h b ++ (tag_of K s h b ++ drop (length (sealing K s h b ++ tag_of K s h b)) o)
-      out_is = ap (λ (v : Seen Answer). v.out) (wrapped_is s h b o e) ∙ append_assoc (sealing K s h b) (tag_of K s h b) _
+      out_is = ap (λ (v : Seen). v.out) (wrapped_is s h b o e) ∙ append_assoc (sealing K s h b) (tag_of K s h b) _
 
       pub text_is : text ≡ sealing K s h b
       text_is = rw out_is (take_at (sealing K s h b) _ (length b) (length-sealing K s h b fine.rate))
@@ -189,14 +187,14 @@ module _ (K : Kind) where
           let m : length text ≡ length b = ap length text_is ∙ length-sealing K s h b fine.rate in
           let r : Ready s h text o' = rw m (may_unwrap K s (length h) (length b) (length o) (length o') (sym (wrap_number s h b o) ∙ e) l) in
           unwrapped_is s h text mark o' ((unwrap_accepts_exactly s h text mark o' r).1 (rw (mark_is, back)))
-          ∙ rw (back, ap (λ (v : Seen Answer). v.answer.session) (wrapped_is s h b o e))
+          ∙ rw (back, ap (λ (v : Seen). v.answer.session) (wrapped_is s h b o e))
 
   -- the session after wrapping the first of some pairs
   abbrev pub sender : Session → Sent → Session
   sender s p = (wraps K s p.header p.body p.out).answer.session
 
   -- the other end's unwrap of what that wrap wrote, on the session r
-  abbrev pub received : Session → Session → Sent → Seen Answer
+  abbrev pub received : Session → Session → Sent → Seen
   received s r p = unwraps K r p.header (text s p.header p.body p.out) (mark s p.header p.body p.out) p.back
 
   -- all are wrapped in turn from s, none is refused, and there is room for each body at the other end
@@ -218,7 +216,7 @@ module _ (K : Kind) where
   pairs_come_back s [] a = refl
   pairs_come_back s (p ∷ ps) a =
       let e = wrap_unwrap s p.header p.body p.out a.0 p.back a.1 in (
-        ap (λ (v : Seen Answer). v.answer.number) e,
+        ap (λ (v : Seen). v.answer.number) e,
         rw e (over (length p.body) p.back p.body refl a.1),
         rw e (pairs_come_back (sender s p) ps a.2),
       )

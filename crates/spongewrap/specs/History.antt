@@ -2,16 +2,14 @@
 -- and one plain sponge over those blocks (demand 3; document 01, "SpongeWrap").
 use Rattle.std.specs.Prelude.{ℕ, ◌+◌, ◌-◌, ◌<◌, ◌≡◌, List, [], ◌∷◌, ◌++◌, length, take, drop, replicate}
 use Rattle.refusal.specs.Rows.{by}
-use Rattle.refusal.specs.Seen.{Seen}
 use Rattle.sponge.specs.Bytes.{bytes}
 use Rattle.sponge.specs.Pieces.{piece}
 use Rattle.sponge.specs.Sponge.{sponge}
 use Rattle.duplex.specs.Duplex.{framed}
 use Rattle.duplex.specs.Strings.{blocks, front, cut, xored}
-use Rattle.spongewrap.specs.Sessions.{cost, wraps, unwraps}
+use Rattle.spongewrap.specs.Sessions.{cost, Seen, wraps, unwraps}
 use Rattle.spongewrap.specs.Kinds.{Kind}
 use Rattle.spongewrap.specs.declared.Session.{Session}
-use Rattle.spongewrap.specs.declared.Answer.{Answer}
 
 -- ---- the calls
 
@@ -19,7 +17,7 @@ pub data Call : Type 0 where
   wrapping : (header body out : List ℕ) → Call
   unwrapping : (header cipher tag out : List ℕ) → Call
 
-unfoldable pub answered : Kind → Session → Call → Seen Answer
+unfoldable pub answered : Kind → Session → Call → Seen
 answered K s (wrapping h b o) = wraps K s h b o
 answered K s (unwrapping h c t o) = unwraps K s h c t o
 
@@ -30,10 +28,14 @@ pub record SealedPair : Type 0 where
   pub cipher : List ℕ
   pub tag : List ℕ
 
--- what a call was handed and, at the front of the output x that it left, what it gave; tags have t bytes
+-- of a call that left x in its output, with a tag of t bytes
 unfoldable pub pair_with : ℕ → Call → List ℕ → SealedPair
 pair_with t (wrapping h b o) x = record { header = h; body = b; cipher = take (length b) x; tag = take t (drop (length b) x) }
 pair_with t (unwrapping h c u o) x = record { header = h; body = take (length c) x; cipher = c; tag = u }
+
+-- what a call on the session s was handed and, at the front of its output, what it gave
+abbrev pub pair_of : Kind → Session → Call → SealedPair
+pair_of K s c = pair_with s.tag c (answered K s c).out
 
 -- what the two ends of a pair have in common
 abbrev pub content : SealedPair → List ℕ × List ℕ
@@ -48,7 +50,7 @@ after_calls K s (c ∷ cs) = after_calls K (answered K s c).answer.session cs
 -- the pairs that were accepted
 unfoldable pub accepted_pairs : Kind → Session → List Call → List SealedPair
 accepted_pairs K s [] = []
-accepted_pairs K s (c ∷ cs) = let u = answered K s c in by u.answer.number [] (pair_with s.tag c u.out ∷ []) ++ accepted_pairs K u.answer.session cs
+accepted_pairs K s (c ∷ cs) = by (answered K s c).answer.number [] (pair_of K s c ∷ []) ++ accepted_pairs K (answered K s c).answer.session cs
 
 -- ---- the padded blocks of a key and of pairs with tags of t bytes
 

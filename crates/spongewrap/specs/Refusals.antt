@@ -1,12 +1,17 @@
 -- The refusal numbers, a clause each, and the order of each call's (document 01, "Refusal numbers").
 use Rattle.std.specs.Prelude.{ℕ, ◌+◌, ◌<◌, ◌≤◌, List, [], ◌∷◌, ◌++◌, Bool, true, not, ◌&&◌, ◌||◌, eqb, ltb, leb}
-use Rattle.refusal.specs.Rows.{first}
-use Rattle.refusal.specs.Limits.{least_size, most_size, bad_size}
+use Rattle.refusal.specs.Rows.{first, outside, short}
 use Rattle.duplex.specs.Duplex.{Rate}
 use Rattle.spongewrap.specs.Kinds.{Kind}
 use Rattle.spongewrap.specs.declared.Session.{Session}
 
 -- ---- the limits
+
+abbrev pub least_size : ℕ
+least_size = 16
+
+abbrev pub most_size : ℕ
+most_size = 256
 
 abbrev pub most_header : ℕ
 most_header = 65535
@@ -23,6 +28,14 @@ most_pairs = 65535
 abbrev pub bad_rate : List ℕ → ℕ → Bool
 bad_rate [] rate = true
 bad_rate (R ∷ Rs) rate = bad_rate Rs rate && not (eqb rate R)
+
+-- 2 and 3: a key, or a tag, of under 16 or over 256 bytes
+abbrev pub bad_size : ℕ → Bool
+bad_size n = outside least_size most_size n
+
+-- 4: a header of over 65,535 bytes
+abbrev pub long_header : ℕ → Bool
+long_header n = ltb most_header n
 
 -- 5: a body of over 1,048,576 bytes
 abbrev pub long_body : ℕ → Bool
@@ -41,9 +54,13 @@ open_rows rate key tag = (rate, 1) ∷ (bad_size key, 2) ∷ (bad_size tag, 3) �
 abbrev pub own_rows : Bool → Bool → Bool → List (Bool × ℕ)
 own_rows rate tag full = (rate, 1) ∷ (tag, 3) ∷ (full, 7) ∷ []
 
--- the rows of a header and a body. 4: a header of over 65,535 bytes
+-- those of the session s, by its kind's ceiling and by what is found of its rate and of its tag length
+abbrev pub rows_of : ℕ → Session → Bool → Bool → List (Bool × ℕ)
+rows_of ceiling s rate tag = own_rows rate tag (full ceiling s.pairs s.calls)
+
+-- the rows of a header and a body
 abbrev pub part_rows : ℕ → ℕ → List (Bool × ℕ)
-part_rows header body = (ltb most_header header, 4) ∷ (long_body body, 5) ∷ []
+part_rows header body = (long_header header, 4) ∷ (long_body body, 5) ∷ []
 
 -- ---- of a kind of session
 
@@ -53,14 +70,14 @@ module _ (K : Kind) where
 
   -- what a wrap and an unwrap have in common
   abbrev pub common_rows : Session → ℕ → ℕ → List (Bool × ℕ)
-  common_rows s header body = own_rows (bad_rate K.rates s.rate) (bad_size s.tag) (full K.ceiling s.pairs s.calls) ++ part_rows header body
+  common_rows s header body = rows_of K.ceiling s (bad_rate K.rates s.rate) (bad_size s.tag) ++ part_rows header body
 
   unfoldable pub wrap_refusal : Session → ℕ → ℕ → ℕ → ℕ
-  wrap_refusal s header body out = first (common_rows s header body ++ (ltb out (body + s.tag), 6) ∷ [])
+  wrap_refusal s header body out = first (common_rows s header body ++ (short out (body + s.tag), 6) ∷ [])
 
   -- an unwrap's rows before its tag's
   abbrev pub ready_rows : Session → ℕ → ℕ → ℕ → List (Bool × ℕ)
-  ready_rows s header body out = common_rows s header body ++ (ltb out body, 6) ∷ []
+  ready_rows s header body out = common_rows s header body ++ (short out body, 6) ∷ []
 
   -- `other`: the tag is another than the recomputed one
   unfoldable pub unwrap_refusal : Session → ℕ → ℕ → ℕ → Bool → ℕ

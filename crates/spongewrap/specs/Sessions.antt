@@ -1,7 +1,6 @@
 -- Sessions: what each call answers and leaves, for every input (document 01, "SpongeWrap" and "Refusal numbers").
 use Rattle.std.specs.Prelude.{ℕ, ◌+◌, ◌-◌, List, ◌++◌, Bool, not, length, drop}
 use Rattle.refusal.specs.Rows.{by}
-use Rattle.refusal.specs.Seen.{Seen, seen}
 use Rattle.compare.specs.Same.{same}
 use Rattle.sponge.specs.Sponge.{zeros}
 use Rattle.duplex.specs.Strings.{blocks}
@@ -23,10 +22,25 @@ cost R t header body = blocks R header + blocks R body + (blocks R t - 1)
 
 -- the session after a pair that leaves the lanes l, by the lengths of its header and body
 unfoldable pub advanced : Session → List ℕ → ℕ → ℕ → Session
-advanced s l header body = record { lanes = l; rate = s.rate; tag = s.tag; pairs = s.pairs + 1; calls = s.calls + cost s.rate s.tag header body }
+advanced s l header body =
+    record {
+      lanes = l;
+      rate = s.rate;
+      tag = s.tag;
+      pairs = s.pairs + 1;
+      calls = s.calls + cost s.rate s.tag header body;
+    }
+
+-- what is seen of a call: its answer, and the lent output as it is left
+pub record Seen : Type 0 where
+  pub answer : Answer
+  pub out : List ℕ
+
+abbrev pub seen : Answer → List ℕ → Seen
+seen a o = record { answer = a; out = o }
 
 -- by the number n: a refusal keeps the session s and the output o; else the session is s' and x lies over the first bytes of o
-unfoldable pub settled : ℕ → Session → List ℕ → Session → List ℕ → Seen Answer
+unfoldable pub settled : ℕ → Session → List ℕ → Session → List ℕ → Seen
 settled n s o s' x = seen (record { number = n; session = by n s s' }) (by n o (x ++ drop (length x) o))
 
 module _ (K : Kind) where
@@ -36,7 +50,11 @@ module _ (K : Kind) where
   fresh R t key = record { lanes = keyed K.w K.f R key; rate = R; tag = t; pairs = 0; calls = blocks R (length key) }
 
   unfoldable pub opens : List ℕ → ℕ → ℕ → Answer
-  opens key R t = let n = open_refusal K (length key) R t in record { number = n; session = by n none (fresh R t key) }
+  opens key R t =
+      record {
+        number = open_refusal K (length key) R t;
+        session = by (open_refusal K (length key) R t) none (fresh R t key);
+      }
 
   -- ---- an accepted pair
 
@@ -56,12 +74,15 @@ module _ (K : Kind) where
 
   -- ---- wrap and unwrap
 
-  unfoldable pub wraps : Session → List ℕ → List ℕ → List ℕ → Seen Answer
-  wraps s h b o = settled (wrap_refusal K s (length h) (length b) (length o)) s o (next s h b) (sealing s h b ++ tag_of s h b)
+  unfoldable pub wraps : Session → List ℕ → List ℕ → List ℕ → Seen
+  wraps s h b o =
+      settled (wrap_refusal K s (length h) (length b) (length o)) s o (next s h b) (sealing s h b ++ tag_of s h b)
 
   -- the tag t is another than the recomputed one
   unfoldable pub foreign : Session → List ℕ → List ℕ → List ℕ → Bool
   foreign s h c t = not (same t (tag_of s h (recovered s h c)))
 
-  unfoldable pub unwraps : Session → List ℕ → List ℕ → List ℕ → List ℕ → Seen Answer
-  unwraps s h c t o = settled (unwrap_refusal K s (length h) (length c) (length o) (foreign s h c t)) s o (next s h (recovered s h c)) (recovered s h c)
+  unfoldable pub unwraps : Session → List ℕ → List ℕ → List ℕ → List ℕ → Seen
+  unwraps s h c t o =
+      settled (unwrap_refusal K s (length h) (length c) (length o) (foreign s h c t)) s o
+      (next s h (recovered s h c)) (recovered s h c)

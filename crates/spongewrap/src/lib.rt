@@ -4,15 +4,13 @@ pub mod orders; // orders.rt: the limits, and the tests of each call in their or
 
 ghost use Rattle.std.specs.Prelude.{◌≡◌, ◌++◌, ◌+◌, ◌<◌, ◌≤◌, length, drop};
 ghost use Rattle.refusal.specs.Rows.{first};
-ghost use Rattle.refusal.specs.Seen.{seen};
 ghost use Rattle.compare.specs.Same.{same};
 ghost use Rattle.keccak.specs.Rounds.{f1600};
 ghost use Rattle.duplex.specs.Duplex.{Rate, drawn, state_after};
 ghost use Rattle.duplex.specs.Strings.{blocks, absorbed, sealed, opened};
 ghost use Rattle.spongewrap.specs.SpongeWrap.{headed};
-ghost use Rattle.spongewrap.specs.Refusals.{ready_rows, Fits};
-ghost use Rattle.refusal.specs.Limits.{most_size};
-ghost use Rattle.spongewrap.specs.Sessions.{none, opens, advanced, next, sealing, tag_of, wraps, unwraps};
+ghost use Rattle.spongewrap.specs.Refusals.{most_size, most_header, most_body, most_pairs, ready_rows, Fits};
+ghost use Rattle.spongewrap.specs.Sessions.{none, opens, advanced, next, sealing, tag_of, wraps, unwraps, seen};
 ghost use Rattle.spongewrap.specs.Desk.{desk, default_rate, default_tag};
 
 // What a session is: the state, its settings, and how many pairs and permutation calls brought it here.
@@ -113,9 +111,7 @@ fn headed(a: [u64; 25], header: &[u8], rate: usize) -> [u64; 25]
     requires { Rate 64 rate }
     ensures { result ≡ headed 64 f1600 rate a header.now }
 {
-    let mut st = a;
-    duplex::absorb(&mut st, header, 0, 1, rate);
-    st
+    duplex::absorbed(a, header, 0, 1, rate)
 }
 
 // The ciphertext of a body, then a tag of n bytes, from the state that the header left.

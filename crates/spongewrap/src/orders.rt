@@ -1,10 +1,15 @@
 // The limits, and each call's tests in their order.
 ghost use Rattle.std.specs.Prelude.{◌≡◌, [], ◌∷◌, ◌++◌};
 ghost use Rattle.refusal.specs.Rows.{first, by};
-ghost use Rattle.spongewrap.specs.Refusals.{bad_rate, full, open_rows, own_rows, part_rows, open_refusal, wrap_refusal, ready_rows};
+ghost use Rattle.spongewrap.specs.Refusals.{bad_rate, bad_size, full, open_rows, own_rows, rows_of, part_rows, open_refusal, wrap_refusal, ready_rows};
 ghost use Rattle.spongewrap.specs.Desk.{desk};
 
 use crate::Session;
+
+// Keys and tags have so many bytes at least and at most.
+const LEAST_SIZE: usize = 16;
+
+const MOST_SIZE: usize = 256;
 
 pub const MOST_HEADER: usize = 65_535;
 
@@ -13,6 +18,13 @@ pub const MOST_BODY: usize = 1_048_576;
 const MOST_PAIRS: u32 = 65_535;
 
 const MOST_CALLS: u64 = 540_991_427;
+
+// A key's or a tag's length.
+pub fn bad_size(n: usize) -> bool
+    ensures { result ≡ bad_size n }
+{
+    refusal::outside(LEAST_SIZE, MOST_SIZE, n)
+}
 
 pub fn is_full(pairs: u32, calls: u64, ceiling: u64) -> bool
     ensures { result ≡ full ceiling pairs calls }
@@ -29,10 +41,10 @@ pub fn of_settings(rate: bool, key: usize, tag: usize) -> u8
     if rate {
         return refusal::BAD_RATE;
     }
-    if refusal::bad_size(key) {
+    if bad_size(key) {
         return refusal::BAD_KEY;
     }
-    if refusal::bad_size(tag) {
+    if bad_size(tag) {
         return refusal::BAD_TAG_LENGTH;
     }
     0
@@ -90,7 +102,7 @@ pub fn of_open(key: usize, rate: u16, tag: u16) -> u8
 // The rows of a session itself. The caller says whether the rate and the tag length are ones it takes: a wrap takes every good one, and a
 // bundle only its own.
 pub fn of_session(s: Session, rate: bool, tag: bool) -> u8
-    ensures { result ≡ first (own_rows rate tag (full desk.ceiling s.pairs s.calls)) }
+    ensures { result ≡ first (rows_of desk.ceiling s rate tag) }
 {
     of_own(rate, tag, is_full(s.pairs, s.calls, MOST_CALLS))
 }
@@ -99,7 +111,7 @@ pub fn of_wrap(s: Session, header: usize, body: usize, out: usize) -> u8
     ensures { result ≡ wrap_refusal desk s header body out }
 {
     let tag = s.tag as usize;
-    let own = of_session(s, bad_rate(s.rate), refusal::bad_size(tag));
+    let own = of_session(s, bad_rate(s.rate), bad_size(tag));
     of_pair(own, header, body, refusal::is_short(out, body, tag))
 }
 
@@ -107,6 +119,6 @@ pub fn of_wrap(s: Session, header: usize, body: usize, out: usize) -> u8
 pub fn of_unwrap(s: Session, header: usize, body: usize, out: usize) -> u8
     ensures { result ≡ first (ready_rows desk s header body out) }
 {
-    let own = of_session(s, bad_rate(s.rate), refusal::bad_size(s.tag as usize));
+    let own = of_session(s, bad_rate(s.rate), bad_size(s.tag as usize));
     of_pair(own, header, body, out < body)
 }

@@ -1,5 +1,2 @@
-pub mod Fields
-pub mod Windows
-pub mod Hashing
-pub mod Codes
-pub mod Pairs
+pub mod Spelled
+pub mod Links

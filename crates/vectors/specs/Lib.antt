@@ -1,6 +1,3 @@
-pub mod Fields
-pub mod Tallies
-pub mod Windows
-pub mod Hashing
-pub mod Codes
-pub mod Courses
+pub mod Bounds
+pub mod Spelled
+pub mod Chains

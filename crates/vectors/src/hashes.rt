@@ -1,8 +1,6 @@
 // The functions under test, under one name.
 ghost use Rattle.std.specs.Prelude.{◌≡◌, ◌≤◌, take};
-ghost use Rattle.vectors.specs.Hashing.{hashed, widened};
-
-use crate::named;
+ghost use Rattle.vectors.specs.Chains.{carried, hashed, widened};
 
 // Which function.
 #[derive(Drop)]
@@ -12,21 +10,21 @@ pub enum Hash {
     Shake256,
 }
 
-// A digest in the front of a blank room.
-fn widened(digest: [u8; 32]) -> [u8; 1024]
+// A digest in the front of 256 zeros.
+fn widened(digest: [u8; 32]) -> [u8; 256]
     ensures { result ≡ widened 32 digest }
 {
-    let mut out = named::blank();
+    let mut out = [0u8; 256];
     bytes::copy(&digest, &mut out);
     out
 }
 
-// The hash of a message in the front of a blank room: `n` bytes of it, and of SHA3-256 always 32.
-pub fn hashed(hash: Hash, message: &[u8], n: usize) -> [u8; 1024]
-    requires { n ≤ 1024 }
+// The hash of a message in the front of 256 zeros: `n` bytes of it, and of SHA3-256 always 32.
+pub fn hashed(hash: Hash, message: &[u8], n: usize) -> [u8; 256]
+    requires { n ≤ 256 }
     ensures { result ≡ hashed hash message.now n }
 {
-    let mut out = named::blank();
+    let mut out = [0u8; 256];
     match hash {
         Hash::Sha3_256 => {
             return widened(sponge::sha3_256(message));
@@ -41,10 +39,22 @@ pub fn hashed(hash: Hash, message: &[u8], n: usize) -> [u8; 1024]
     out
 }
 
-// The next output of a Monte Carlo chain, `n` bytes of it: the message is so many bytes of the last one.
-pub fn chained(hash: Hash, last: [u8; 1024], carried: usize, n: usize) -> [u8; 1024]
-    requires { (carried ≤ 1024) × (n ≤ 1024) }
-    ensures { result ≡ hashed hash (take carried last) n }
+// How many bytes of one output a Monte Carlo chain takes for the next message.
+fn carried(hash: Hash) -> usize
+    ensures { (result ≡ carried hash) × (result ≤ 32) }
 {
-    hashed(hash, &last[0..carried], n)
+    match hash {
+        Hash::Sha3_256 => 32,
+        Hash::Shake128 => 16,
+        Hash::Shake256 => 16,
+    }
+}
+
+// The next output of a Monte Carlo chain, `n` bytes of it.
+pub fn chained(hash: Hash, last: [u8; 256], n: usize) -> [u8; 256]
+    requires { n ≤ 256 }
+    ensures { result ≡ hashed hash (take (carried hash) last) n }
+{
+    let end = carried(hash);
+    hashed(hash, &last[0..end], n)
 }

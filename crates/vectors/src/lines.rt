@@ -1,77 +1,27 @@
 // The lines of a file, through a buffer that is refilled.
-ghost use Rattle.std.specs.Prelude.{◌≡◌, false, not, ◌++◌, ◌+◌, ◌-◌, ◌≤◌, eqb, drop, length, take};
-ghost use Rattle.refusal.specs.Rows.{pick};
-ghost use Rattle.vectors.specs.Windows.{Whole, newline};
+ghost use Rattle.std.specs.Prelude.{◌≡◌, ◌≤◌};
+ghost use Rattle.vectors.specs.Bounds.{Part};
+ghost use Rattle.vectors.specs.Spelled.{line_end};
 
-// Where the buffer has some lines of the file, from `start` up to `end`, and the last of them, from `line` on. Behind them bytes
-// up to `filled` are read from the file and are still to come. `there` says whether the last line is one that just came.
+// Which part of the buffer holds bytes that were read from the file and not yet handed out.
 #[derive(Drop)]
-pub struct Window {
-    pub there: bool,
+pub struct Unread {
     pub start: usize,
-    pub line: usize,
     pub end: usize,
-    pub filled: usize,
 }
 
-impl Window {
-    // Nothing read yet.
-    pub fn none() -> Window
-        ensures { (result.start ≡ 0) × (result.line ≡ 0) × (result.end ≡ 0) × (result.filled ≡ 0) × (result.there ≡ false) }
-    {
-        Window {
-            there: false,
-            start: 0,
-            line: 0,
-            end: 0,
-            filled: 0,
-        }
-    }
-
-    // No lines, after these have served.
-    pub fn served(self) -> Window
-        ensures { (result.start ≡ self.end) × (result.line ≡ self.end) × (result.end ≡ self.end) × (result.filled ≡ self.filled) × (result.there ≡ false) }
-    {
-        Window {
-            there: false,
-            start: self.end,
-            line: self.end,
-            end: self.end,
-            filled: self.filled,
-        }
-    }
-
-    // One line more, up to the next newline; none where no newline is there.
-    fn grown(self, buffer: &[u8]) -> Window
-        requires { Whole self buffer.now }
-        ensures { (result.there ≡ not (eqb (newline self buffer.now) self.filled)) × (result.start ≡ self.start) × (result.line ≡ self.end) × (result.end ≡ pick (eqb (newline self buffer.now) self.filled) self.end (newline self buffer.now + 1)) × (result.filled ≡ self.filled) × Whole result buffer.now }
-    {
-        let from = self.end;
-        let filled = self.filled;
-        let at = bytes::scan::find(buffer, from, filled, b'\n');
-        if at == filled {
-            return Window {
-                there: false,
-                start: self.start,
-                line: from,
-                end: from,
-                filled,
-            };
-        }
-        Window {
-            there: true,
-            start: self.start,
-            line: from,
-            end: at + 1,
-            filled,
-        }
-    }
+// Where a line stands in the buffer, without the newline that ends it (or the return and newline), and what is still unread behind it.
+#[derive(Drop)]
+pub struct Line {
+    pub is_there: bool,
+    pub start: usize,
+    pub end: usize,
+    pub rest: Unread,
 }
 
-// Moves the part from `start` up to `end` to the front of the buffer.
+// Moves what is unread to the front of the buffer.
 fn move_to_front(buffer: &mut [u8], start: usize, end: usize)
-    requires { (start ≤ end) × (end ≤ length buffer.old) }
-    ensures { buffer.new ≡ take (end - start) (drop start buffer.old) ++ drop (end - start) buffer.old }
+    requires { Part start end buffer.old }
 {
     let n = end - start;
     let mut i = 0;
@@ -81,35 +31,69 @@ fn move_to_front(buffer: &mut [u8], start: usize, end: usize)
     }
 }
 
-// Keeps the lines and what is to come, and fills the buffer up behind it from the file.
-fn refilled(fd: i32, buffer: &mut [u8], window: Window) -> Window
-    requires { Whole window buffer.old }
-    ensures { Whole result buffer.new }
+// Keeps what is unread and fills the buffer up behind it from the file.
+fn refilled(fd: i32, buffer: &mut [u8], unread: Unread) -> Unread
+    requires { Part unread.start unread.end buffer.old }
+    ensures { Part result.start result.end buffer.new }
 {
-    let start = window.start;
-    let filled = window.filled;
-    move_to_front(buffer, start, filled);
-    let kept = filled - start;
+    let start = unread.start;
+    let end = unread.end;
+    move_to_front(buffer, start, end);
+    let kept = end - start;
     let got = io::read_full(fd, &mut buffer[kept..]);
-    let end = window.end - start;
-    Window {
-        there: false,
+    Unread {
         start: 0,
-        line: end,
-        end,
-        filled: kept + got,
+        end: kept + got,
     }
 }
 
-// The window with the next line of the file. There is none at the end of the file, and none where the lines fill the buffer.
-pub fn next(fd: i32, buffer: &mut [u8], window: Window) -> Window
-    requires { Whole window buffer.old }
-    ensures { Whole result buffer.new }
+// The first line of what is unread; none where no newline is there.
+fn first(buffer: &[u8], unread: Unread) -> Line
+    requires { Part unread.start unread.end buffer.now }
+    ensures { Part result.start result.end buffer.now × Part result.rest.start result.rest.end buffer.now }
 {
-    let grown = window.grown(&buffer[..]);
-    if grown.there {
-        return grown;
+    let start = unread.start;
+    let end = unread.end;
+    let at = bytes::scan::find(buffer, start, end, b'\n');
+    if at == end {
+        return Line {
+            is_there: false,
+            start,
+            end: start,
+            rest: unread,
+        };
     }
-    let more = refilled(fd, buffer, window);
-    more.grown(&buffer[..])
+    let next = at + 1;
+    Line {
+        is_there: true,
+        start,
+        end: without_return(buffer, start, at),
+        rest: Unread { start: next, end },
+    }
+}
+
+// Where the text of a line ends whose newline is at `at`: before the return, if there is one.
+fn without_return(buffer: &[u8], start: usize, at: usize) -> usize
+    requires { Part start at buffer.now }
+    ensures { (result ≡ line_end start at buffer.now) × (start ≤ result) × (result ≤ at) }
+{
+    if start < at {
+        if buffer[at - 1] == b'\r' {
+            return at - 1;
+        }
+    }
+    at
+}
+
+// The next line of the file. There is none at the end of the file, and none where a line is longer than the buffer.
+pub fn next(fd: i32, buffer: &mut [u8], unread: Unread) -> Line
+    requires { Part unread.start unread.end buffer.old }
+    ensures { Part result.start result.end buffer.new × Part result.rest.start result.rest.end buffer.new }
+{
+    let line = first(buffer, unread);
+    if line.is_there {
+        return line;
+    }
+    let more = refilled(fd, buffer, unread);
+    first(buffer, more)
 }

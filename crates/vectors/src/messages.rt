@@ -1,69 +1,102 @@
 // The files of single messages: short, long, and of variable output.
-ghost use Rattle.std.specs.Prelude.{◌≡◌, ◌&&◌, ◌*◌, eqb, length};
+ghost use Rattle.std.specs.Prelude.{◌≡◌, ◌+◌, ◌≤◌, eqb, length};
 ghost use Rattle.refusal.specs.Rows.{pick};
-ghost use Rattle.vectors.specs.Fields.{begins, blank, fitting, number_from, value};
-ghost use Rattle.vectors.specs.Hashing.{hashed, message_in};
+ghost use Rattle.vectors.specs.Bounds.{Tallied};
 
 use crate::hashes::Hash;
-use crate::lines::Window;
+use crate::lines::Unread;
 use crate::tally::Tally;
 use crate::{hashes, lines, named};
 
-// The bits of an output, as the text states them under a name; as before where it does not.
-fn stated(text: &[u8], name: &[u8], before: usize) -> usize
-    ensures { result ≡ pick (eqb (number_from 0 (value text.now name.now)) 0) before (number_from 0 (value text.now name.now)) }
+// A case as far as it is read: the lengths that the file states, in bits, and the bytes of the message.
+#[derive(Drop)]
+struct Case {
+    input: usize,
+    output: usize,
+    message: usize,
+}
+
+// The case after one more line.
+fn read(case: Case, line: &[u8], message: &mut [u8]) -> Case
+    requires { case.message ≤ length message.old }
+    ensures { result.message ≤ length message.new }
 {
-    let n = named::number_in(text, name);
+    let input = named::number_after(line, b"Len = ", case.input);
+    let input = named::number_after(line, b"[Input Length = ", input);
+    let output = named::number_after(line, b"[L = ", case.output);
+    let output = named::number_after(line, b"[Outputlen = ", output);
+    let output = named::number_after(line, b"Outputlen = ", output);
+    let read = named::bytes_after(line, b"Msg = ", message, case.message);
+    Case {
+        input,
+        output,
+        message: read,
+    }
+}
+
+// The bits that the files spell for a message of so many: an empty one is spelled as one byte.
+fn spelled(bits: usize) -> usize
+    ensures { (result ≡ pick (eqb bits 0) 8 bits) × (bits ≤ result) }
+{
+    if bits == 0 { 8 } else { bits }
+}
+
+// Whether a case, read up to the line of its result, agrees.
+fn agrees(case: Case, hash: Hash, line: &[u8], message: &[u8]) -> bool
+    requires { (case.message ≤ length message.now) × (length message.now ≤ 65536) }
+{
+    let mut expected = [0u8; 256];
+    let n = named::result(line, &mut expected);
     if n == 0 {
-        return before;
+        return false;
     }
-    n
-}
-
-// The message of a case. One of no bits is spelled as one byte.
-fn message<'a>(text: &[u8], room: &'a mut [u8]) -> &'a [u8]
-    ensures { result.now ≡ message_in (length room.old) text.now }
-{
-    let empty = named::value(text, b"Len = 0\r");
-    if 0 < empty.len() {
-        let whole = &room[..];
-        return &whole[0..0];
+    if case.output != 8 * n {
+        return false;
     }
-    named::bytes(text, b"Msg = ", room)
+    if spelled(case.input) != 8 * case.message {
+        return false;
+    }
+    let end = case.input / 8;
+    let out = hashes::hashed(hash, &message[0..end], n);
+    check::same(&out, &expected)
 }
 
-// Whether a case agrees, by the text up to its result, which has so many bits.
-fn agrees(hash: Hash, text: &[u8], name: &[u8], bits: usize) -> bool
-    ensures { result ≡ (eqb bits (8 * length (fitting blank (value text.now name.now))) && begins (hashed hash (message_in 65536 text.now) (length (fitting blank (value text.now name.now)))) (fitting blank (value text.now name.now))) }
+// The tally after a line, which may end a case.
+fn judged(tally: Tally, case: Case, hash: Hash, line: &[u8], message: &[u8]) -> Tally
+    requires tallied { Tallied tally 65535 }
+    requires message_in_bounds { (case.message ≤ length message.now) × (length message.now ≤ 65536) }
+    ensures { Tallied result (tally.run + 1) }
 {
-    let mut room = named::blank();
-    let mut large = io::large_buffer();
-    let due = named::bytes(text, name, &mut room);
-    let n = due.len();
-    let out = hashes::hashed(hash, message(text, &mut large), n);
-    (bits == 8 * n) & named::begins(&out, due)
+    if named::is_result(line) {
+        return tally.counted(agrees(case, hash, line, message));
+    }
+    tally
 }
 
-// Runs every case of a file of fewer than 65,536 lines. A result, under a name, ends a case; its bits stand under another.
-pub fn run(hash: Hash, size: &[u8], name: &[u8], fd: i32, buffer: &mut [u8]) -> Tally {
-    let mut window = Window::none();
-    let mut bits = 1;
+// Runs every case of a file of fewer than 65,536 lines.
+pub fn run(hash: Hash, fd: i32, buffer: &mut [u8], message: &mut [u8]) -> Tally
+    requires { length message.old ≤ 65536 }
+{
+    let mut unread = Unread { start: 0, end: 0 };
+    let mut case = Case {
+        input: 0,
+        output: 0,
+        message: 0,
+    };
     let mut tally = Tally::none();
     let mut turns: u64 = 0;
-    while turns < 65535 {
-        turns += 1;
-        window = lines::next(fd, buffer, window);
-        if !window.there {
+    while turns < 65536 {
+        let line = lines::next(fd, buffer, unread);
+        if !line.is_there {
             return tally;
         }
-        let start = window.start;
-        let line = window.line;
-        let end = window.end;
-        if named::begins(&buffer[line..end], name) {
-            bits = stated(&buffer[start..end], size, bits);
-            tally = tally.counted(agrees(hash, &buffer[start..end], name, bits));
-            window = window.served();
-        }
+        let start = line.start;
+        let end = line.end;
+        let text = &buffer[start..end];
+        case = read(case, text, message);
+        tally = judged(tally, case, hash, text, message);
+        unread = line.rest;
+        turns += 1;
     }
     tally
 }

@@ -1,44 +1,27 @@
-// The fields of a text, which is some lines of a file: a name with the blank behind it, and then a number or bytes in hexadecimal
-// digits, up to the first byte that is no digit.
-ghost use Rattle.std.specs.Prelude.{◌≡◌, ◌&&◌, ◌++◌, ◌≤◌, drop, length};
-ghost use Rattle.vectors.specs.Fields.{begins, blank, byte, digit, fitting, number_from, value};
+// The fields of a line: a name, and a number or bytes in hexadecimal digits after it.
+ghost use Rattle.std.specs.Prelude.{◌≡◌, ◌≤◌, length};
+ghost use Rattle.vectors.specs.Spelled.{byte, digit, is_named, number_after, number_from, value};
 
-// Whether the text starts with the front.
-pub fn begins(text: &[u8], front: &[u8]) -> bool
-    ensures { result ≡ begins text.now front.now }
-{
-    let n = front.len();
-    if text.len() < n {
-        return false;
-    }
-    compare::is_same(&text[0..n], front)
-}
-
-// Whether the text starts with the first, and goes on with the second.
-pub fn begins_both(text: &[u8], first: &[u8], second: &[u8]) -> bool
-    ensures { result ≡ (begins text.now first.now && begins (drop (length first.now) text.now) second.now) }
-{
-    if !begins(text, first) {
-        return false;
-    }
-    let n = first.len();
-    begins(&text[n..], second)
-}
-
-// What follows the name where it first stands; nothing where it does not.
-pub fn value<'a>(text: &'a [u8], name: &[u8]) -> &'a [u8]
-    ensures { result.now ≡ value text.now name.now }
+// Whether the line starts with the name.
+pub fn is_named(line: &[u8], name: &[u8]) -> bool
+    ensures { result ≡ is_named line.now name.now }
 {
     let n = name.len();
-    let mut i = 0;
-    while i < text.len() {
-        if begins(&text[i..], name) {
-            let end = i + n;
-            return &text[end..];
-        }
-        i += 1;
+    if line.len() < n {
+        return false;
     }
-    &text[0..0]
+    compare::is_same(&line[0..n], name)
+}
+
+// What follows the name; nothing where the line has another.
+fn value<'a>(line: &'a [u8], name: &[u8]) -> &'a [u8]
+    ensures { result.now ≡ value line.now name.now }
+{
+    if !is_named(line, name) {
+        return &line[0..0];
+    }
+    let n = name.len();
+    &line[n..]
 }
 
 // The value of a digit, 16 where the byte is none.
@@ -72,13 +55,6 @@ fn number(text: &[u8]) -> usize
     n
 }
 
-// The number of the named field; 0 where there is none.
-pub fn number_in(text: &[u8], name: &[u8]) -> usize
-    ensures { result ≡ number_from 0 (value text.now name.now) }
-{
-    number(value(text, name))
-}
-
 // The byte that two digits spell, 256 where they spell none.
 fn byte(high: u8, low: u8) -> u16
     ensures { (result ≡ byte high low) × (result ≤ 256) }
@@ -94,38 +70,83 @@ fn byte(high: u8, low: u8) -> u16
     16 * h as u16 + l as u16
 }
 
-// Puts the bytes that the digits spell to the front of `out`, as far as they fit, and answers how many these are.
-pub fn decode(digits: &[u8], out: &mut [u8]) -> usize
-    ensures { (result ≡ length (fitting out.old digits.now)) × (result ≤ length out.new) × (out.new ≡ fitting out.old digits.now ++ drop result out.old) }
+// Puts the bytes that the digits spell to the front of `out` and answers how many there are, 0 where the text is not whole
+// bytes or `out` is too short.
+fn decode(digits: &[u8], out: &mut [u8]) -> usize
+    ensures { result ≤ length out.new }
 {
     let n = digits.len() / 2;
+    if digits.len() % 2 != 0 {
+        return 0;
+    }
+    if out.len() < n {
+        return 0;
+    }
     let mut i = 0;
     while i < n {
-        if out.len() <= i {
-            return i;
-        }
         let b = byte(digits[2 * i], digits[2 * i + 1]);
         if 255 < b {
-            return i;
+            return 0;
         }
         out[i] = b as u8;
         i += 1;
     }
-    i
+    n
 }
 
-// The bytes of the named field, as far as they fit into the room that is lent for them.
-pub fn bytes<'a>(text: &[u8], name: &[u8], out: &'a mut [u8]) -> &'a [u8]
-    ensures { result.now ≡ fitting out.old (value text.now name.now) }
+// The number of the named field, or what it was before where the line has another.
+pub fn number_after(line: &[u8], name: &[u8], before: usize) -> usize
+    ensures { result ≡ number_after line.now name.now before }
 {
-    let n = decode(value(text, name), out);
-    let whole = &out[..];
-    &whole[0..n]
+    let text = value(line, name);
+    if text.len() == 0 {
+        before
+    } else {
+        number(text)
+    }
 }
 
-// A room of zeros.
-pub fn blank() -> [u8; 1024]
-    ensures { result ≡ blank }
+// The bytes of the named field, put to the front of `out`, and how many there are; or, where the line has another, as many as
+// there were before.
+pub fn bytes_after(line: &[u8], name: &[u8], out: &mut [u8], before: usize) -> usize
+    requires { before ≤ length out.old }
+    ensures { result ≤ length out.new }
 {
-    [0u8; 1024]
+    let text = value(line, name);
+    if text.len() == 0 {
+        before
+    } else {
+        decode(text, out)
+    }
+}
+
+// The same for a field that may be empty, and whose name is given without the blank at its end.
+pub fn text_after(line: &[u8], name: &[u8], out: &mut [u8], before: usize) -> usize
+    requires { before ≤ length out.old }
+    ensures { result ≤ length out.new }
+{
+    if !is_named(line, name) {
+        return before;
+    }
+    let n = name.len();
+    if line.len() <= n {
+        return 0;
+    }
+    let start = n + 1;
+    decode(&line[start..], out)
+}
+
+// Whether a line ends a case: it has the digest or the output.
+pub fn is_result(line: &[u8]) -> bool {
+    let digest = value(line, b"MD = ");
+    let output = value(line, b"Output = ");
+    digest.len() > 0 || output.len() > 0
+}
+
+// The digest or the output of a line.
+pub fn result(line: &[u8], out: &mut [u8]) -> usize
+    ensures { result ≤ length out.new }
+{
+    let n = bytes_after(line, b"MD = ", out, 0);
+    bytes_after(line, b"Output = ", out, n)
 }

@@ -1,18 +1,34 @@
 // The file of sessions: each is opened, its pairs are sealed and opened again one after the other, and the state that it comes to is
 // compared. A session of the file is one case, which agrees if all of this does.
-ghost use Rattle.std.specs.Prelude.{◌≡◌, ◌&&◌, eqb};
+ghost use Rattle.std.specs.Prelude.{◌≡◌, ◌+◌, ◌≤◌, eqb, length};
 ghost use Rattle.spongewrap.specs.Desk.{desk};
 ghost use Rattle.spongewrap.specs.Sessions.{opens};
-ghost use Rattle.compare.specs.Same.{same};
-ghost use Rattle.refusal.specs.Rows.{pick};
-ghost use Rattle.sponge.specs.Bytes.{bytes};
-ghost use Rattle.vectors.specs.Fields.{ascii, begins, bytes_in, number_in};
-ghost use Rattle.vectors.specs.Courses.{begun, seals, setting, unseals};
+ghost use Rattle.vectors.specs.Bounds.{Part, Tallied, Within, setting};
 
-use crate::courses::Course;
-use crate::lines::Window;
+use crate::lines::Unread;
+use crate::pairs::{Course, Pair};
 use crate::tally::Tally;
-use crate::{courses, lines, named};
+use crate::{lines, named, pairs};
+use spongewrap::Session;
+
+// What the file states of a session: its settings, and the pairs and calls that it comes to.
+#[derive(Drop)]
+struct Stated {
+    rate: usize,
+    tag: usize,
+    pairs: usize,
+    calls: usize,
+}
+
+// What is stated after one more line.
+fn stated_after(before: Stated, line: &[u8]) -> Stated {
+    Stated {
+        rate: named::number_after(line, b"Rate = ", before.rate),
+        tag: named::number_after(line, b"TagLength = ", before.tag),
+        pairs: named::number_after(line, b"Pairs = ", before.pairs),
+        calls: named::number_after(line, b"Calls = ", before.calls),
+    }
+}
 
 // A stated rate or tag length; 0, which every open refuses, where it is too large to be one.
 fn setting(n: usize) -> u16
@@ -24,132 +40,202 @@ fn setting(n: usize) -> u16
     n as u16
 }
 
-// The sessions of a text's key and settings.
-fn opened(text: &[u8]) -> Course
-    ensures { result ≡ begun (opens desk (bytes_in text.now "Key = ") (setting (number_in text.now "Rate = ")) (setting (number_in text.now "TagLength = "))) }
+// A session from a key and settings.
+fn opened(key: &[u8], rate: usize, tag: usize) -> Course
+    ensures { (result.agrees ≡ eqb (opens desk key.now (setting rate) (setting tag)).number 0) × (result.session ≡ (opens desk key.now (setting rate) (setting tag)).session) }
 {
-    let mut room = named::blank();
-    let rate = setting(named::number_in(text, b"Rate = "));
-    let tag = setting(named::number_in(text, b"TagLength = "));
-    courses::opened(named::bytes(text, b"Key = ", &mut room), rate, tag)
-}
-
-// Seals a pair. It agrees if a blank room then starts with its ciphertext and tag. No pair of the file has more than 1,024 bytes.
-fn sealed(before: Course, header: &[u8], body: &[u8], cipher: &[u8], tag: &[u8]) -> Course
-    ensures { result ≡ seals before header.now body.now cipher.now tag.now }
-{
-    let mut out = named::blank();
-    let writer = before.writer;
-    let reader = before.reader;
-    let answer = spongewrap::wrap(writer, header, body, &mut out);
+    let answer = spongewrap::open(key, setting(rate), setting(tag));
     let number = answer.number;
     let session = answer.session;
     Course {
-        agrees: before.agrees & ((number == 0) & named::begins_both(&out, cipher, tag)),
-        writer: session,
-        reader,
-        place: before.place,
+        agrees: number == 0,
+        session,
     }
 }
 
-// Opens a pair. It agrees if a blank room then starts with its body.
-fn unsealed(before: Course, header: &[u8], cipher: &[u8], tag: &[u8], body: &[u8]) -> Course
-    ensures { result ≡ unseals before header.now cipher.now tag.now body.now }
+// A session from the key of a line.
+fn opened_by(line: &[u8], stated: Stated, key: &mut [u8]) -> Course {
+    let n = named::text_after(line, b"Key =", key, 0);
+    opened(&key[0..n], stated.rate, stated.tag)
+}
+
+// The course after a line, which may have a session's key or end a pair.
+fn moved(
+    before: Course,
+    stated: Stated,
+    pair: Pair,
+    line: &[u8],
+    header: &[u8],
+    body: &[u8],
+    due: &[u8],
+) -> Course
+    requires { Within pair header.now body.now due.now }
 {
-    let mut out = named::blank();
-    let writer = before.writer;
-    let reader = before.reader;
-    let answer = spongewrap::unwrap(reader, header, cipher, tag, &mut out);
-    let number = answer.number;
-    let session = answer.session;
-    Course {
-        agrees: before.agrees & ((number == 0) & named::begins(&out, body)),
-        writer,
-        reader: session,
-        place: before.place,
+    if named::is_named(line, b"Key =") {
+        let mut key = [0u8; 256];
+        return opened_by(line, stated, &mut key);
     }
+    if named::is_named(line, b"Tag =") {
+        let h = pair.header;
+        let b = pair.body;
+        let c = pair.cipher;
+        let d = pair.due;
+        return pairs::paired(before, &header[0..h], &body[0..b], &due[0..d], c);
+    }
+    before
 }
 
-// The course after the pair of a text, which one session seals and the other opens.
-fn paired(before: Course, text: &[u8]) -> Course
-    ensures { result ≡ unseals (seals before (bytes_in text.now "Header = ") (bytes_in text.now "Body = ") (bytes_in text.now "Cipher = ") (bytes_in text.now "Tag = ")) (bytes_in text.now "Header = ") (bytes_in text.now "Cipher = ") (bytes_in text.now "Tag = ") (bytes_in text.now "Body = ") }
-{
-    let mut room = named::blank();
-    let mut other = named::blank();
-    let mut third = named::blank();
-    let mut fourth = named::blank();
-    let header = named::bytes(text, b"Header = ", &mut room);
-    let body = named::bytes(text, b"Body = ", &mut other);
-    let cipher = named::bytes(text, b"Cipher = ", &mut third);
-    let tag = named::bytes(text, b"Tag = ", &mut fourth);
-    unsealed(
-        sealed(before, header, body, cipher, tag),
-        header,
-        cipher,
-        tag,
-        body,
-    )
-}
-
-// Whether a session has come to what the text states: its pairs and calls, and its lanes in block order.
-fn ends(course: Course, text: &[u8]) -> bool
-    ensures { result ≡ (course.agrees && (eqb course.writer.pairs (number_in text.now "Pairs = ") && (eqb course.writer.calls (number_in text.now "Calls = ") && same (bytes 64 course.writer.lanes) (bytes_in text.now "State = ")))) }
-{
-    let mut room = named::blank();
-    let s = course.writer;
+// Whether a session's lanes are the state of a line, in block order.
+fn stands_at(s: Session, line: &[u8]) -> bool {
     let lanes = s.lanes;
-    let pairs = named::number_in(text, b"Pairs = ");
-    let calls = named::number_in(text, b"Calls = ");
-    let state = sponge::state_bytes(lanes);
-    let due = named::bytes(text, b"State = ", &mut room);
-    course.agrees
-        & ((s.pairs as usize == pairs)
-            & ((s.calls == calls as u64) & compare::is_same(&state, due)))
+    let mut state = [0u8; 200];
+    let mut due = [0u8; 200];
+    sponge::put_bytes(lanes, &mut state);
+    let n = named::text_after(line, b"State =", &mut due, 0);
+    n == 200 && check::same(&state, &due)
 }
 
-// What a line asks for: 1 with a key, 2 with a tag, which ends a pair, 3 with a state, which ends a session; else 0.
-fn act_of(line: &[u8]) -> u8
-    ensures { result ≡ pick (begins line.now (ascii "Key =")) 1 (pick (begins line.now (ascii "Tag =")) 2 (pick (begins line.now (ascii "State =")) 3 0)) }
+// Whether a session has come to what the file states, and to the state of the line.
+fn ends(course: Course, stated: Stated, line: &[u8]) -> bool {
+    let s = course.session;
+    let counted = s.pairs as usize == stated.pairs && s.calls == stated.calls as u64;
+    course.agrees && counted && stands_at(s, line)
+}
+
+// The tally after a line, which may end a session; such a line changes nothing else.
+fn judged(tally: Tally, course: Course, stated: Stated, line: &[u8]) -> Tally
+    requires { Tallied tally 65535 }
+    ensures { Tallied result (tally.run + 1) }
 {
-    if named::begins(line, b"Key =") {
-        return 1;
+    if named::is_named(line, b"State =") {
+        return tally.counted(ends(course, stated, line));
     }
-    if named::begins(line, b"Tag =") {
-        return 2;
+    tally
+}
+
+// A file as far as it is read: what is stated, the pair and the course of its last session, and the tally of those before.
+#[derive(Drop)]
+struct Reading {
+    stated: Stated,
+    pair: Pair,
+    course: Course,
+    tally: Tally,
+}
+
+// Nothing read yet.
+fn unread_file() -> Reading
+    ensures { (result.pair.header ≡ 0) × (result.pair.body ≡ 0) × (result.pair.cipher ≡ 0) × (result.pair.due ≡ 0) × Tallied result.tally 0 }
+{
+    let stated = Stated {
+        rate: 0,
+        tag: 0,
+        pairs: 0,
+        calls: 0,
+    };
+    let pair = Pair {
+        header: 0,
+        body: 0,
+        cipher: 0,
+        due: 0,
+    };
+    let course = opened(b"", 0, 0);
+    let tally = Tally::none();
+    Reading {
+        stated,
+        pair,
+        course,
+        tally,
     }
-    if named::begins(line, b"State =") {
-        return 3;
+}
+
+// The file after one more line.
+fn read(before: Reading, line: &[u8], header: &mut [u8], body: &mut [u8], due: &mut [u8]) -> Reading
+    requires { Within before.pair header.old body.old due.old × Tallied before.tally 65535 }
+    ensures { Within result.pair header.new body.new due.new × Tallied result.tally (before.tally.run + 1) }
+{
+    let last_stated = before.stated;
+    let last_pair = before.pair;
+    let last_course = before.course;
+    let last_tally = before.tally;
+    let tally = judged(last_tally, last_course, last_stated, line);
+    let stated = stated_after(last_stated, line);
+    let pair = pairs::pair_after(last_pair, line, header, body, due);
+    let course = moved(
+        last_course,
+        stated,
+        pair,
+        line,
+        &header[..],
+        &body[..],
+        &due[..],
+    );
+    Reading {
+        stated,
+        pair,
+        course,
+        tally,
     }
-    0
+}
+
+// A turn of the reading: whether there was a line, what is unread after it, and the file after it.
+#[derive(Drop)]
+struct Turn {
+    more: bool,
+    unread: Unread,
+    reading: Reading,
+}
+
+// The next line, if there is one.
+fn turned(
+    fd: i32,
+    unread: Unread,
+    before: Reading,
+    buffer: &mut [u8],
+    header: &mut [u8],
+    body: &mut [u8],
+    due: &mut [u8],
+) -> Turn
+    requires { Part unread.start unread.end buffer.old × Within before.pair header.old body.old due.old × Tallied before.tally 65535 }
+    ensures { Part result.unread.start result.unread.end buffer.new × Within result.reading.pair header.new body.new due.new × Tallied result.reading.tally (before.tally.run + 1) }
+{
+    let line = lines::next(fd, buffer, unread);
+    let rest = line.rest;
+    if !line.is_there {
+        return Turn {
+            more: false,
+            unread: rest,
+            reading: before,
+        };
+    }
+    let start = line.start;
+    let end = line.end;
+    let reading = read(before, &buffer[start..end], header, body, due);
+    Turn {
+        more: true,
+        unread: rest,
+        reading,
+    }
 }
 
 // Runs every session of a file of fewer than 65,536 lines.
-pub fn run(fd: i32, buffer: &mut [u8]) -> Tally {
-    let mut window = Window::none();
-    let mut course = courses::opened(b"", 0, 0);
-    let mut tally = Tally::none();
+pub fn run(
+    fd: i32,
+    buffer: &mut [u8],
+    header: &mut [u8],
+    body: &mut [u8],
+    due: &mut [u8],
+) -> Tally {
+    let mut unread = Unread { start: 0, end: 0 };
+    let mut reading = unread_file();
     let mut turns: u64 = 0;
     while turns < 65535 {
+        let turn = turned(fd, unread, reading, buffer, header, body, due);
+        unread = turn.unread;
+        reading = turn.reading;
+        if !turn.more {
+            return reading.tally;
+        }
         turns += 1;
-        window = lines::next(fd, buffer, window);
-        if !window.there {
-            return tally;
-        }
-        let start = window.start;
-        let line = window.line;
-        let end = window.end;
-        let act = act_of(&buffer[line..end]);
-        if act == 0 {
-            continue;
-        }
-        window = window.served();
-        if act == 1 {
-            course = opened(&buffer[start..end]);
-        } else if act == 2 {
-            course = paired(course, &buffer[start..end]);
-        } else {
-            tally = tally.counted(ends(course, &buffer[start..end]));
-        }
     }
-    tally
+    reading.tally
 }

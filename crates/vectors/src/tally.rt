@@ -1,7 +1,6 @@
 // What came of a file's cases, and the line that says so.
-ghost use Rattle.std.specs.Prelude.{◌≡◌, ◌+◌, ◌≤◌, ◌<◌, eqb};
-ghost use Rattle.refusal.specs.Rows.{pick};
-ghost use Rattle.vectors.specs.Tallies.{counts};
+ghost use Rattle.std.specs.Prelude.{◌≡◌, false, ◌+◌, ◌≤◌, ◌<◌};
+ghost use Rattle.vectors.specs.Bounds.{differing, more};
 
 use libc::STDOUT_FILENO;
 
@@ -28,7 +27,7 @@ impl Tally {
     // One more case. It counts as agreeing only where it agrees.
     pub fn counted(self, agrees: bool) -> Tally
         requires { (self.agreed ≤ self.run) × (self.run < 65536) }
-        ensures { (result ≡ counts agrees self) × (result.agreed ≤ result.run) × (result.run ≡ self.run + 1) }
+        ensures { (result.run ≡ self.run + 1) × (result.agreed ≡ more agrees self.agreed) × (result.agreed ≤ result.run) × (result.first ≡ differing agrees self) }
     {
         if agrees {
             return Tally {
@@ -46,7 +45,7 @@ impl Tally {
 
     // The first that differs once one more does: that one, where all before agreed.
     fn first_differing(self) -> u64
-        ensures { result ≡ pick (eqb self.agreed self.run) self.run self.first }
+        ensures { result ≡ differing false self }
     {
         if self.agreed == self.run {
             return self.run;

@@ -42,7 +42,6 @@ fn surveyed() -> Row {
         job: "survey, each entry".to_string(),
         maker: Maker::Library,
         note: " (65,535 in 16 MiB; to be at most 1,000 ns)",
-        hash: None,
         calls: ENTRIES as u64,
         blocks: 0,
         bytes: 0,

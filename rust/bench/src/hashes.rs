@@ -4,7 +4,7 @@ use crate::messages::{row, Call, SIZES};
 use crate::openssl::Digest;
 use crate::table::{Maker, Row};
 use exports::desk::sha3_256;
-use exports::probe::hashes::{shake128, shake256};
+use exports::probe::hashes::shake128;
 
 /// A hash to 32 bytes by the library and by OpenSSL.
 struct Hash {
@@ -14,7 +14,7 @@ struct Hash {
     openssl: fn() -> Option<Digest>,
 }
 
-const HASHES: [Hash; 3] = [
+const HASHES: [Hash; 2] = [
     Hash {
         name: "SHA3-256",
         rate: 136,
@@ -26,12 +26,6 @@ const HASHES: [Hash; 3] = [
         rate: 168,
         library: shake128,
         openssl: Digest::shake128,
-    },
-    Hash {
-        name: "SHAKE256",
-        rate: 136,
-        library: shake256,
-        openssl: Digest::shake256,
     },
 ];
 

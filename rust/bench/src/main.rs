@@ -5,7 +5,6 @@
 
 mod bundles;
 mod ciphers;
-mod codes;
 mod counting;
 mod hashes;
 mod messages;
@@ -21,7 +20,6 @@ fn rows() -> Vec<Row> {
     [
         permutation::rows(),
         hashes::rows(),
-        codes::rows(),
         sessions::rows(),
         ciphers::rows(),
         bundles::rows(),

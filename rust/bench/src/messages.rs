@@ -16,20 +16,14 @@ pub fn row(name: &str, maker: Maker, size: usize, blocks: usize, call: Option<Ca
         Box::new(move || (0..calls).for_each(|_| call(&message)))
     });
     Row {
-        job: job(name, size),
+        job: format!("{name}, {}", size_label(size)),
         maker,
         note: "",
-        hash: None,
         calls: calls as u64,
         blocks: blocks as u64,
         bytes: size as u64,
         run,
     }
-}
-
-/// What is done over a message of that size, as the tables name it.
-pub fn job(name: &str, size: usize) -> String {
-    format!("{name}, {}", size_label(size))
 }
 
 /// A size as the tables name it.

@@ -65,22 +65,12 @@ impl Digest {
 
     /// SHAKE128, if OpenSSL is installed.
     pub fn shake128() -> Option<Digest> {
-        Digest::shake(c"SHAKE128")
-    }
-
-    /// SHAKE256, if OpenSSL is installed.
-    pub fn shake256() -> Option<Digest> {
-        Digest::shake(c"SHAKE256")
-    }
-
-    /// The function of that name, which gives as many bytes as asked.
-    fn shake(name: &CStr) -> Option<Digest> {
         // SAFETY: the type is that of the manual page, and 32 bytes are asked for.
         let finish: FinishLong = unsafe { function(c"EVP_DigestFinalXOF")? };
         let ending = move |context, out: &mut [u8; 32]| unsafe {
             finish(context, out.as_mut_ptr(), out.len())
         };
-        Digest::find(name, Box::new(ending))
+        Digest::find(c"SHAKE128", Box::new(ending))
     }
 
     /// The hash function of that name.

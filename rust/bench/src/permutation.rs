@@ -45,7 +45,6 @@ fn row(maker: Maker, calls: u64, run: Option<Box<dyn FnMut()>>) -> Row {
         job: PERMUTATION.to_string(),
         maker,
         note: "",
-        hash: None,
         calls,
         blocks: 1,
         bytes: 0,

@@ -44,8 +44,6 @@ pub struct Row {
     pub maker: Maker,
     /// How the measurement is taken, where that needs a word after the maker's name.
     pub note: &'static str,
-    /// The job of a plain hash of the same rate and size, for a code, which is held to it.
-    pub hash: Option<String>,
     /// Calls in one run.
     pub calls: u64,
     /// Permutations in one call, 0 for a cipher that has none.
@@ -125,15 +123,6 @@ impl Measured {
         Some(self.nanoseconds? / best)
     }
 
-    /// This row's time over the time that its own maker takes for the plain hash.
-    fn against_hash(&self, all: &[Measured]) -> Option<f64> {
-        let job = self.row.hash.as_ref()?;
-        let hash = all
-            .iter()
-            .find(|m| m.row.job == *job && m.row.maker == self.row.maker)?;
-        Some(self.nanoseconds? / hash.nanoseconds?)
-    }
-
     /// Whether this is a row of the library's own.
     fn is_library(&self) -> bool {
         self.row.maker == Maker::Library
@@ -148,7 +137,7 @@ impl Measured {
     }
 
     /// The cells of this row's line.
-    fn cells(&self, all: &[Measured]) -> [String; 9] {
+    fn cells(&self, all: &[Measured]) -> [String; 8] {
         let time = match self.nanoseconds {
             Some(time) => format!("{time:.1}"),
             None => "not installed".to_string(),
@@ -161,7 +150,6 @@ impl Measured {
             cell(self.speed(), 1),
             cell(self.against(all, Maker::is_plain_c), 3),
             cell(self.against_permutation(all), 3),
-            cell(self.against_hash(all), 3),
             cell(self.against(all, |maker| maker == Maker::OpenSsl), 3),
         ]
     }
@@ -182,12 +170,11 @@ pub fn print(all: &[Measured]) {
         "MB/s",
         "to plain C",
         "to permutation",
-        "to SHAKE",
         "to OpenSSL",
     ];
     let mut lines = vec![titles.map(str::to_string)];
     lines.extend(all.iter().map(|measured| measured.cells(all)));
-    print_lines(&lines, &[2, 3, 4, 5, 6, 7, 8]);
+    print_lines(&lines, &[2, 3, 4, 5, 6, 7]);
     println!("shortest of many runs of each row, taken by turns in one process");
 }
 

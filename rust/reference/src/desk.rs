@@ -65,15 +65,3 @@ pub fn sha3_256(message: &[u8], digest: &mut [u8]) -> Result<(), Refusal> {
     *digest = sponge::sha3_256(message);
     Ok(())
 }
-
-/// What a verification answers that refuses nothing and finds another code; no refusal's number.
-pub const WRONG_CODE: u8 = 255;
-
-/// A verification's answer: 0 for a code that is right alone.
-pub fn verdict(judged: Result<bool, Refusal>) -> u8 {
-    match judged {
-        Ok(true) => 0,
-        Ok(false) => WRONG_CODE,
-        Err(refusal) => refusal,
-    }
-}

@@ -75,7 +75,7 @@ fn add(lanes: &mut Lanes, at: usize, byte: u8) {
 }
 
 /// Hashes one whole message to as many bytes as `out` has.
-pub(crate) fn hash(rate: usize, suffix: u8, message: &[u8], out: &mut [u8]) {
+fn hash(rate: usize, suffix: u8, message: &[u8], out: &mut [u8]) {
     let mut sponge = Absorbing::new(rate);
     sponge.absorb(message);
     sponge.padded(suffix).squeeze(out);

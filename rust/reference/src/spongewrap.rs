@@ -12,9 +12,9 @@ pub type Refusal = u8;
 pub const RATE: Refusal = 1;
 /// The key is too short or too long.
 pub const KEY: Refusal = 2;
-/// The session's tag length, or a code's, is too small or too large.
+/// The session's tag length is too small or too large.
 pub const TAG_LENGTH: Refusal = 3;
-/// The header is too long, or the name or customisation of a code.
+/// The header is too long.
 pub const HEADER: Refusal = 4;
 /// The body is too long.
 pub const BODY: Refusal = 5;
@@ -25,10 +25,10 @@ pub const SPENT: Refusal = 7;
 /// The tag is another one.
 pub const TAG: Refusal = 8;
 
-/// The lengths that keys, tags and codes may have.
+/// The lengths that keys and tags may have.
 pub const KEYS_AND_TAGS: RangeInclusive<usize> = 16..=256;
 
-/// The longest header, name and customisation.
+/// The longest header.
 pub const MOST_HEADER: usize = 65_535;
 /// The longest body.
 pub const MOST_BODY: usize = 1_048_576;

@@ -39,7 +39,7 @@ fn survey_of_the_worked_example() {
     assert_eq!(survey(&bundle), Ok(2));
     let mut shorter = bundle[..204].to_vec();
     shorter[4] -= 1;
-    assert_eq!(survey(&shorter), refused(12, 204));
+    assert_eq!(survey(&shorter), refused(9, 43));
 }
 
 /// The lines of document 01's listing, entry by entry.
@@ -65,7 +65,7 @@ fn what_was_added_is_surveyed_and_opened() {
     assert_eq!(open_entry(&mut reader, &bundle, 270, &mut body), Ok(292));
     assert_eq!(
         open_entry(&mut reader, &bundle, 292, &mut body),
-        refused(12, 292)
+        refused(9, 292)
     );
     assert_eq!(reader.pairs, 3);
 }
@@ -77,7 +77,7 @@ fn survey_refuses_in_its_order() {
     assert_eq!(survey(&[1, 0, 0, 0]), refused(9, 1));
     assert_eq!(survey(&[1, 0, 0, 0, 1]), refused(9, 1));
     assert_eq!(survey(&[1, 0, 0, 0, 0]), refused(11, 5));
-    assert_eq!(survey(&[1, 0, 0, 0, 1, 0]), refused(12, 6));
+    assert_eq!(survey(&[1, 0, 0, 0, 1, 0]), refused(9, 5));
     assert_eq!(survey(&vec![2; 16_777_216]), refused(10, 0));
     assert_eq!(survey(&vec![2; 16_777_217]), refused(9, 0));
 }
@@ -119,9 +119,7 @@ fn entry_zero_is_judged_last() {
     bundle[6] -= 1;
     assert_eq!(survey(&bundle), refused(11, 5));
     bundle[44] = 0x11;
-    assert_eq!(survey(&bundle), refused(13, 44));
-    bundle[43..45].copy_from_slice(&[0xFF, 0]);
-    assert_eq!(survey(&bundle), refused(12, 204));
+    assert_eq!(survey(&bundle), refused(9, 42));
 }
 
 #[test]
@@ -139,9 +137,8 @@ fn opening_refuses_at_its_place() {
     assert_eq!(open(&other(168, 32, 65_535), 999, 0), refused(1, 999));
     assert_eq!(open(&other(136, 32, 65_535), 999, 0), refused(3, 999));
     assert_eq!(open(&other(136, 16, 65_535), 999, 0), refused(7, 999));
-    assert_eq!(open(&start, 999, 0), refused(12, 999));
-    assert_eq!(open(&start, u64::MAX, 0), refused(12, u64::MAX));
-    assert_eq!(open(&start, 290, 0), refused(12, 292));
+    assert_eq!(open(&start, 999, 0), refused(9, 999));
+    assert_eq!(open(&start, u64::MAX, 0), refused(9, u64::MAX));
     assert_eq!(open(&start, 43, 199), refused(6, 43));
     assert_eq!(open(&start, 43, 200), refused(8, 43));
 }

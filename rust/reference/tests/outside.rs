@@ -6,7 +6,31 @@ mod response;
 use reference::bundle;
 use reference::keccak::bytes_of;
 use reference::spongewrap::Session;
-use response::{go_through, Latest};
+use response::{bytes, fields};
+use std::collections::HashMap;
+
+/// The latest value of each name, as a file is gone through.
+#[derive(Default)]
+struct Latest(HashMap<String, String>);
+
+impl Latest {
+    fn bytes(&self, name: &str) -> Vec<u8> {
+        bytes(&self.0[name])
+    }
+
+    fn number<N: std::str::FromStr<Err = std::num::ParseIntError>>(&self, name: &str) -> N {
+        self.0[name].parse().unwrap()
+    }
+}
+
+/// Goes through a file: after each field, the step sees its name and the latest values.
+fn go_through(file: &str, mut step: impl FnMut(&str, &Latest)) {
+    let mut latest = Latest::default();
+    for (name, value) in fields(file) {
+        latest.0.insert(name.clone(), value);
+        step(&name, &latest);
+    }
+}
 
 /// Wraps the latest pair and unwraps what the file has for it.
 fn check_pair(session: &mut Session, latest: &Latest) {

@@ -4,30 +4,48 @@ mod response;
 
 use reference::keccak::{bytes_of, lanes_of, permuted_1600};
 use reference::sponge::{sha3_256, shake128, shake256, Absorbing};
-use response::{go_through, Latest};
+use std::collections::HashMap;
 
 /// One of the two functions that fill a slice.
 type Shake = fn(&[u8], &mut [u8]);
 
-/// The message of a case: the file spells an empty one as one byte, so its length in bits decides.
-fn message(case: &Latest) -> Vec<u8> {
-    let mut message = case.bytes("Msg");
-    if case.0.contains_key("Len") {
-        let bits: usize = case.number("Len");
-        assert_eq!(bits % 8, 0);
-        message.truncate(bits / 8);
+/// The latest value of each name in a response file, up to the end of one case.
+#[derive(Clone, Default)]
+struct Case(HashMap<String, String>);
+
+impl Case {
+    /// The value of a name that is a number.
+    fn number(&self, name: &str) -> Option<usize> {
+        self.0.get(name).map(|digits| digits.parse().unwrap())
     }
-    message
+
+    /// The value of a name that is a string of bytes in hexadecimal digits.
+    fn bytes(&self, name: &str) -> Vec<u8> {
+        response::bytes(&self.0[name])
+    }
+
+    /// The message: the file spells an empty one as one byte, so its length in bits decides.
+    fn message(&self) -> Vec<u8> {
+        let mut message = self.bytes("Msg");
+        if let Some(bits) = self.number("Len") {
+            assert_eq!(bits % 8, 0);
+            message.truncate(bits / 8);
+        }
+        message
+    }
 }
 
 /// All cases of a response file; each ends at its digest or output.
-fn cases(file: &str) -> Vec<Latest> {
+fn cases(file: &str) -> Vec<Case> {
+    let mut latest = Case::default();
     let mut cases = Vec::new();
-    go_through(file, |name, latest| {
-        if name == "MD" || name == "Output" {
+    for (name, value) in response::fields(file) {
+        let ends = name == "MD" || name == "Output";
+        latest.0.insert(name, value);
+        if ends {
             cases.push(latest.clone());
         }
-    });
+    }
     cases
 }
 
@@ -36,7 +54,7 @@ fn check_sha3_256(file: &str, count: usize) {
     let cases = cases(file);
     assert_eq!(cases.len(), count, "{file}");
     for case in cases {
-        assert_eq!(sha3_256(&message(&case)).to_vec(), case.bytes("MD"));
+        assert_eq!(sha3_256(&case.message()).to_vec(), case.bytes("MD"));
     }
 }
 
@@ -45,8 +63,8 @@ fn check_shake(shake: Shake, file: &str, count: usize) {
     let cases = cases(file);
     assert_eq!(cases.len(), count, "{file}");
     for case in cases {
-        let mut out = vec![0; case.number::<usize>("Outputlen") / 8];
-        shake(&message(&case), &mut out);
+        let mut out = vec![0; case.number("Outputlen").unwrap() / 8];
+        shake(&case.message(), &mut out);
         assert_eq!(out, case.bytes("Output"));
     }
 }
@@ -55,8 +73,8 @@ fn check_shake(shake: Shake, file: &str, count: usize) {
 fn check_shake_chain(shake: Shake, file: &str) {
     let cases = cases(file);
     assert_eq!(cases.len(), 100, "{file}");
-    let [least, most] = ["Minimum", "Maximum"]
-        .map(|end| cases[0].number::<usize>(&format!("{end} Output Length (bits)")) / 8);
+    let least = cases[0].number("Minimum Output Length (bits)").unwrap() / 8;
+    let most = cases[0].number("Maximum Output Length (bits)").unwrap() / 8;
     let mut output = cases[0].bytes("Msg");
     let mut length = most;
     for case in cases {
@@ -67,7 +85,7 @@ fn check_shake_chain(shake: Shake, file: &str) {
             let last = u16::from_be_bytes([output[length - 2], output[length - 1]]);
             length = least + usize::from(last) % (most - least + 1);
         }
-        assert_eq!(case.number::<usize>("Outputlen"), 8 * output.len());
+        assert_eq!(case.number("Outputlen"), Some(8 * output.len()));
         assert_eq!(output, case.bytes("Output"));
     }
 }

@@ -1,23 +1,17 @@
 //! Calls of libdesk.a.
 
 use crate::made_up::{message, room};
-use crate::{codes, sessions, Trial};
-use compare::codes::Code;
+use crate::{sessions, Trial};
 use compare::hashes::digested;
 use compare::random::Random;
 use compare::sessions::Calls;
-use exports::desk::*;
-use reference::desk::verdict;
+use exports::desk::{open, sha3_256, unwrap, wrap, RATE, TAG};
 
 /// The archive's two calls on pairs.
 const CALLS: Calls = Calls { wrap, unwrap };
 
-/// The archive's codes.
-const KMAC128: Code<u8> = Code::of_128(kmac128, kmac128_verify, verdict);
-const KMAC256: Code<u8> = Code::of_256(kmac256, kmac256_verify, verdict);
-
 /// Each export.
-pub const TRIALS: [Trial; 8] = [
+pub const TRIALS: [Trial; 4] = [
     ("feefledown_open", |random| {
         sessions::open(random, open, RATE, TAG)
     }),
@@ -26,14 +20,6 @@ pub const TRIALS: [Trial; 8] = [
         sessions::unwrap(random, CALLS)
     }),
     ("feefledown_sha3_256", try_sha3_256),
-    ("feefledown_kmac128", |random| codes::kmac(random, KMAC128)),
-    ("feefledown_kmac256", |random| codes::kmac(random, KMAC256)),
-    ("feefledown_kmac128_verify", |random| {
-        codes::verify(random, KMAC128)
-    }),
-    ("feefledown_kmac256_verify", |random| {
-        codes::verify(random, KMAC256)
-    }),
 ];
 
 fn try_sha3_256(random: &mut Random) {

@@ -5,7 +5,6 @@
 //! difference ends it, with the seed from which the very same call comes first again.
 
 mod bundles;
-mod codes;
 mod desk;
 mod made_up;
 mod probe;

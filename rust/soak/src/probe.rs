@@ -1,8 +1,7 @@
 //! Calls of libprobe.a but for the bundles.
 
 use crate::made_up::{around, blank, key, message, once_in, room};
-use crate::{codes, sessions, Trial};
-use compare::codes::{told, Code, Filling};
+use crate::{sessions, Trial};
 use compare::duplex::{duplexed, made, object, OBJECT};
 use compare::hashes::{filled, Shake};
 use compare::permutation::permuted;
@@ -10,13 +9,12 @@ use compare::random::Random;
 use compare::sessions::{
     damage, length, opened_by_default, string, tag_length, Calls, RATES, TAGS,
 };
-use exports::probe::codes::*;
 use exports::probe::duplex::{duplexing, new};
 use exports::probe::hashes::{shake128, shake256};
 use exports::probe::permutation::{permute, permute_times};
 use exports::probe::running;
 use exports::probe::sessions::{default_open, open};
-use reference::{kmac, sponge};
+use reference::sponge;
 
 /// The two calls on pairs through the running session.
 const RUNNING: Calls = Calls {
@@ -24,36 +22,12 @@ const RUNNING: Calls = Calls {
     unwrap: running::unwrap,
 };
 
-/// The codes of fixed length.
-const KMAC128: Code<u64> = Code::of_128(kmac128, kmac128_verify, told);
-const KMAC256: Code<u64> = Code::of_256(kmac256, kmac256_verify, told);
-
 /// Each export.
-pub const TRIALS: [Trial; 18] = [
+pub const TRIALS: [Trial; 10] = [
     ("probe_permute", try_permute),
     ("probe_permute_times", try_permute_times),
     ("probe_shake128", try_shake128),
     ("probe_shake256", try_shake256),
-    ("probe_cshake128", |random| {
-        codes::cshake(random, Filling(cshake128, kmac::cshake128))
-    }),
-    ("probe_cshake256", |random| {
-        codes::cshake(random, Filling(cshake256, kmac::cshake256))
-    }),
-    ("probe_kmac128", |random| codes::kmac(random, KMAC128)),
-    ("probe_kmac256", |random| codes::kmac(random, KMAC256)),
-    ("probe_kmacxof128", |random| {
-        codes::kmacxof(random, Filling(kmacxof128, kmac::kmacxof128))
-    }),
-    ("probe_kmacxof256", |random| {
-        codes::kmacxof(random, Filling(kmacxof256, kmac::kmacxof256))
-    }),
-    ("probe_kmac128_verify", |random| {
-        codes::verify(random, KMAC128)
-    }),
-    ("probe_kmac256_verify", |random| {
-        codes::verify(random, KMAC256)
-    }),
     ("probe_new_duplex", try_new_duplex),
     ("probe_duplexing", try_duplexing),
     ("probe_open", try_open),

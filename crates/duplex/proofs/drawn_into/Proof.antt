@@ -11,16 +11,16 @@ use Rattle.duplex.proofs.drawn_into.Statement.{statement}
 use Rattle.duplex.proofs.drawn_into.Tie as tie
 
 abbrev invariant-loop : tie.invariant-loop
-invariant-loop rate out₀ most st₀ at₀ out st at = (at ≤ length out₀ - 1) × (most ≡ rate - 1) × (length out ≡ length out₀) × (length st ≡ 25) × Squeezed 64 (blank 64 f1600 rate) (rate - 1) st₀ out₀ at st out
+invariant-loop rate out₀ most st₀ at₀ out st at = (at ≤ length out₀ - 1) × (most ≡ rate - 1) × (length out ≡ length out₀) × Squeezed 64 (blank 64 f1600 rate) (rate - 1) st₀ out₀ at st out
 
 abbrev decreases-loop : tie.decreases-loop
 decreases-loop rate out₀ most st₀ at₀ out st at = length out₀ - at
 
 loop-holds : tie.Need-loop-init invariant-loop decreases-loop
-loop-holds c = (search rules, search rules, search rules, search rules, wrote_none _ _ _ _ _ (given-length _ _ (search rules)) (search rules) _)
+loop-holds c = (search rules, search rules, search rules, wrote_none _ _ _ _ _ (given-length _ _ (search rules)) (search rules) _)
 
 loop-again : tie.Need-loop-preserved invariant-loop decreases-loop
-loop-again c = (search rules, search rules, search rules, search rules, search (rules, squeezed_more))
+loop-again c = (search rules, search rules, search rules, search (rules, squeezed_more))
 
 returns : tie.Need-returns invariant-loop decreases-loop
 unfolding drawn state_after

@@ -9,10 +9,10 @@ slice-aggregate-open-piece : tie.Need-slice-aggregate-open-piece
 slice-aggregate-open-piece c = sym (length-take-le _ _ (search rules))
 
 open-piece-requires : tie.Need-open-piece-requires
-open-piece-requires c κs = (search rules, search rules, search rules, search rules, length-take-le _ _ (search rules))
+open-piece-requires c κs = (search rules, search rules, search rules, length-take-le _ _ (search rules))
 
 returns : tie.Need-returns
-returns c = let t = c.before.open-piece.ensures in (rw t.2 at t.0, t.1)
+returns c = cc
 
 pub peek_piece_spec : {M : Type 1} → statement M
 peek_piece_spec =

@@ -11,22 +11,22 @@ use Rattle.duplex.proofs.sealed_into.Statement.{statement}
 use Rattle.duplex.proofs.sealed_into.Tie as tie
 
 abbrev invariant-loop : tie.invariant-loop
-invariant-loop body rate out₀ most st₀ at₀ out st at = (at ≤ length body - 1) × (most ≡ rate - 1) × (length out ≡ length out₀) × (length st ≡ 25) × Wrote (rate - 1) (taken 64 f1600 rate 1) (mask 64) body st₀ out₀ at st out
+invariant-loop body rate out₀ most st₀ at₀ out st at = (at ≤ length body - 1) × (most ≡ rate - 1) × (length out ≡ length out₀) × Wrote (rate - 1) (taken 64 f1600 rate 1) (mask 64) body st₀ out₀ at st out
 
 abbrev decreases-loop : tie.decreases-loop
 decreases-loop body rate out₀ most st₀ at₀ out st at = length body - at
 
 loop-holds : tie.Need-loop-init invariant-loop decreases-loop
-loop-holds c = (search rules, search rules, search rules, search rules, wrote_none _ _ _ _ _ (mask-length _ _) (search rules) _)
+loop-holds c = (search rules, search rules, search rules, wrote_none _ _ _ _ _ (mask-length _ _) (search rules) _)
 
 loop-again : tie.Need-loop-preserved invariant-loop decreases-loop
-loop-again c = (search rules, search rules, search rules, search rules, search (rules, wrote_more))
+loop-again c = (search rules, search rules, search rules, search (rules, wrote_more))
 
 returns : tie.Need-returns invariant-loop decreases-loop
 returns c =
-    let l = c.before.before.before.before.before.before.before.loop.invariant.4 in
+    let l = c.before.before.before.before.before.before.loop.invariant.3 in
     let t = c.before.before.seal-piece2.ensures in
-    (absorbed_last _ _ _ _ _ _ _ _ _ _ l.ran (search rules) (search rules) t.0, rw sealed_written (wrote_last _ _ _ _ _ _ _ _ _ _ l (search rules) (search rules) t.2))
+    (absorbed_last _ _ _ _ _ _ _ _ _ _ l.ran (search rules) (search rules) t.0, rw sealed_written (wrote_last _ _ _ _ _ _ _ _ _ _ l (search rules) (search rules) t.1))
 
 pub sealed_into_spec : {M : Type 1} → statement M
 sealed_into_spec =

@@ -3,7 +3,7 @@ use borrow.Author.Rules.{rules}
 use mathlib.Core.Path.{◌≡◌, ◌∙◌, ap}
 use lib.ListN.{length}
 use Rattle.keccak.specs.Steps.{chi_row}
-use Rattle.keccak.proofs.InPlace.{chi_rows}
+use Rattle.keccak.proofs.Rows.{chi_rows}
 use Rattle.keccak.proofs.chi.Statement.{statement}
 use Rattle.keccak.proofs.chi.Tie as tie
 

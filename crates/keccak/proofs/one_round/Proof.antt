@@ -1,4 +1,4 @@
--- The steps in their order.
+-- The five steps in their order.
 use borrow.Author.Rules.{rules}
 use Rattle.keccak.specs.Rounds.{round}
 use Rattle.keccak.proofs.one_round.Statement.{statement}
@@ -9,4 +9,4 @@ unfolding round
 returns c = cc
 
 pub one_round_spec : {M : Type 1} → statement M
-one_round_spec = tie.close (tie.spec (λ c κs. search rules) (λ c κs. search rules) (λ c κs. search rules) (λ c κs. search rules) returns)
+one_round_spec = tie.close (tie.spec (λ c κs. search rules) (λ c κs. search rules) (λ c κs. search rules) (λ c κs. search rules) (λ c κs. search rules) returns)

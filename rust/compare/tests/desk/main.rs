@@ -1,6 +1,5 @@
 //! The C surface against the reference.
 
-mod codes;
 mod hashes;
 mod header;
 mod null;

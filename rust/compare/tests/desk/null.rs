@@ -1,14 +1,12 @@
 //! NULL with length 0 through the C surface, for every parameter and every mixture of them: it is
 //! an empty buffer, as a pointer to anything else with length 0 is.
 
-use compare::codes::Code;
 use compare::hashes::digested;
 use compare::sessions::{opened, Calls, Letter};
 use exports::desk::{
-    feefledown_kmac128, feefledown_kmac128_verify, feefledown_kmac256, feefledown_kmac256_verify,
     feefledown_open, feefledown_sha3_256, feefledown_unwrap, feefledown_wrap, RATE, TAG,
 };
-use reference::desk::{verdict, IMAGE};
+use reference::desk::IMAGE;
 use reference::spongewrap::Session;
 use std::ptr::{null, null_mut};
 
@@ -82,62 +80,6 @@ fn unwrap(image: &mut [u8], header: &[u8], ciphertext: &[u8], tag: &[u8], body: 
 /// The surface's two calls on pairs, with NULL for whatever is empty.
 const CALLS: Calls = Calls { wrap, unwrap };
 
-/// Makes a function of an export that fills a slice by three strings.
-macro_rules! filling {
-    ($export:ident) => {
-        |key, customisation, message, out| {
-            // SAFETY: as above.
-            unsafe {
-                $export(
-                    pointer(key),
-                    key.len(),
-                    pointer(customisation),
-                    customisation.len(),
-                    pointer(message),
-                    message.len(),
-                    pointer_mut(out),
-                    out.len(),
-                )
-            }
-        }
-    };
-}
-
-/// Makes a function of an export that judges a code by three strings.
-macro_rules! judging {
-    ($export:ident) => {
-        |key, customisation, message, code| {
-            // SAFETY: as above.
-            unsafe {
-                $export(
-                    pointer(key),
-                    key.len(),
-                    pointer(customisation),
-                    customisation.len(),
-                    pointer(message),
-                    message.len(),
-                    pointer(code),
-                    code.len(),
-                )
-            }
-        }
-    };
-}
-
-/// The surface's codes, with NULL for whatever is empty.
-const CODES: [Code<u8>; 2] = [
-    Code::of_128(
-        filling!(feefledown_kmac128),
-        judging!(feefledown_kmac128_verify),
-        verdict,
-    ),
-    Code::of_256(
-        filling!(feefledown_kmac256),
-        judging!(feefledown_kmac256_verify),
-        verdict,
-    ),
-];
-
 /// Nothing, or the bytes, as the bit of that number says.
 fn part(mixture: usize, bit: usize, bytes: &[u8]) -> &[u8] {
     match mixture >> bit & 1 {
@@ -167,33 +109,6 @@ fn digests() {
         digested(sha3_256, message, digest).answer
     });
     assert_eq!(answers, [6, 6, 0, 0]);
-}
-
-/// Coded with and without customisation and message, and refused without a key or an output; and
-/// each code is right for the strings that it is of, and for no others.
-#[test]
-fn codes() {
-    let strings = |mixture| {
-        let customisation = part(mixture, 0, b"partner");
-        [
-            part(mixture, 2, &[1; 16]),
-            customisation,
-            part(mixture, 1, b"visits"),
-        ]
-    };
-    for code in CODES {
-        for mixture in 0..16 {
-            let room = part(mixture, 3, &[0x5A; 32]);
-            let seen = code.kmac.filled(strings(mixture), room);
-            let due = [2, 3, 2, 0][mixture >> 2];
-            assert_eq!(seen.answer, due);
-            for other in 0..8 {
-                let judged = code.judged(strings(other), &seen.lent);
-                let is_right = other == mixture & 7;
-                assert_eq!(judged == Ok(true), due == 0 && is_right);
-            }
-        }
-    }
 }
 
 /// Wrapped with and without header and body, and refused without an image or an output.

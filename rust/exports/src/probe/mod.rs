@@ -1,7 +1,6 @@
 //! The exports of libprobe.a, a module for each stage of the library.
 
 pub mod bundles;
-pub mod codes;
 pub mod duplex;
 pub mod hashes;
 pub mod permutation;

@@ -5,10 +5,10 @@ use Rattle.bundle.proofs.format.entry_at.Statement.{statement}
 use Rattle.bundle.proofs.format.entry_at.Tie as tie
 
 returns : tie.Need-returns
-returns c = entry_short _ _ _ (search rules) (search rules)
+returns c = entry_short _ _ _ (search rules)
 
 returns-2 : tie.Need-returns-2
-returns-2 c = entry_short _ _ _ (search rules) (search rules)
+returns-2 c = entry_short _ _ _ (search rules)
 
 returns-3 : tie.Need-returns-3
 returns-3 c = entry_large _ _ _ (search rules) (search rules)

@@ -19,7 +19,7 @@ returns-2 c =
     rw c.refuse2.ensures
     (let e = c.before.before.before.entry_at in
     open_bad _ _ _ _ _ e.result _ _ (sym c.before.before.before.before.before.own-refusal.ensures ∙ c.before.before.before.before.if1.false) e.ensures
-    (not_whole e.result c.before.before.match.keys2) c.before.entry-refusal.ensures.0 c.before.entry-refusal.ensures.1)
+    (not_whole e.result _ c.before.before.match.keys2) c.before.entry-refusal.ensures.0 c.before.entry-refusal.ensures.1)
 
 open-whole-requires : tie.Need-open-whole-requires
 open-whole-requires c κs =

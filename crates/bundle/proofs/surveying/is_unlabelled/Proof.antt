@@ -7,7 +7,7 @@ use Rattle.bundle.proofs.surveying.is_unlabelled.Statement.{statement}
 use Rattle.bundle.proofs.surveying.is_unlabelled.Tie as tie
 
 returns : tie.Need-returns
-returns c = let e = c.before.args.entry in not_labelled e (not_whole e c.match.keys2)
+returns c = let e = c.before.args.entry in not_labelled e (not_whole e 0 c.match.keys2)
 
 returns-2 : tie.Need-returns-2
 unfolding unlabelled

@@ -29,7 +29,7 @@ returns-2 : tie.Need-returns-2 invariant-loop decreases-loop
 returns-2 c =
     let l = c.before.before.before.before.before.loop in
     walk_bad _ _ l.place l.count (search rules) (search rules) c.before.before.entry_at.result _ _ c.before.before.entry_at.ensures
-    (not_whole c.before.before.entry_at.result c.before.match.keys2) c.entry-refusal.ensures.0 c.entry-refusal.ensures.1
+    (not_whole c.before.before.entry_at.result l.place c.before.match.keys2) c.entry-refusal.ensures.0 c.entry-refusal.ensures.1
     ∙ sym l.invariant.0
 
 loop-less : tie.Need-loop-smaller invariant-loop decreases-loop

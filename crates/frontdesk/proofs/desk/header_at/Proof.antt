@@ -9,7 +9,7 @@ use Rattle.frontdesk.proofs.desk.header_at.Statement.{statement}
 use Rattle.frontdesk.proofs.desk.header_at.Tie as tie
 
 returns : tie.Need-returns
-returns c = let e = c.before.before.entry_at in header_none e.result _ _ e.ensures (not_whole e.result c.before.match.keys2)
+returns c = let e = c.before.before.entry_at in header_none e.result _ _ e.ensures (not_whole e.result _ c.before.match.keys2)
 
 whole : (c : tie.After-known-told) → let n = c.before.entry.given.0 in WholeAt version1 c.before.before.before.before.before.args.bytes.now c.before.before.before.before.before.args.place n.0 n.1.0 n.1.1.0
 whole c = whole_at _ _ _ _ _ _ (sym c.before.before.before.entry_at.ensures ∙ c.before.entry.given.1)

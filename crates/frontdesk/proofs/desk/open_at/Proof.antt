@@ -1,15 +1,14 @@
 -- The answer of the opening.
 use mathlib.Core.Path.{ap}
 use borrow.Author.Rules.{rules}
-use Rattle.refusal.specs.Seen.{Seen}
-use Rattle.bundle.specs.declared.Reply.{Reply}
+use Rattle.bundle.specs.Answers.{Seen}
 use Rattle.frontdesk.specs.Day.{opens_at}
 use Rattle.frontdesk.proofs.desk.open_at.Statement.{statement}
 use Rattle.frontdesk.proofs.desk.open_at.Tie as tie
 
 returns : tie.Need-returns
 unfolding opens_at
-returns c = ap (λ (u : Seen Reply). u.answer) c.before.before.before.open_entry.ensures
+returns c = ap (λ (u : Seen). u.answer) c.before.before.before.open_entry.ensures
 
 pub open_at_spec : {M : Type 1} → statement M
 open_at_spec =

@@ -35,13 +35,13 @@ returns-2 c =
     (rw (n.put-u643.ensures, m.put-u642.ensures, h.put-u64.ensures))
 
 returns-3 : tie.Need-returns-3
-returns-3 c = entry_is _ _ _ c.before.before.entry_at.result (search rules) c.before.before.entry_at.ensures (Short _) _ c.enum_told.given.1 refl
+returns-3 c = entry_is _ _ _ c.before.before.entry_at.result (search rules) c.before.before.entry_at.ensures Short _ c.enum_told.given.1 refl
 
 returns-4 : tie.Need-returns-4
-returns-4 c = entry_is _ _ _ c.before.before.entry_at.result (search rules) c.before.before.entry_at.ensures (Large _) _ c.enum-told2.given.1 refl
+returns-4 c = entry_is _ _ _ c.before.before.entry_at.result (search rules) c.before.before.entry_at.ensures Large _ c.enum-told2.given.1 refl
 
 returns-5 : tie.Need-returns-5
-returns-5 c = entry_is _ _ _ c.before.before.entry_at.result (search rules) c.before.before.entry_at.ensures (Past _) _ c.enum-told3.given.1 refl
+returns-5 c = entry_is _ _ _ c.before.before.entry_at.result (search rules) c.before.before.entry_at.ensures Past _ c.enum-told3.given.1 refl
 
 pub probe_entry_at_spec : {M : Type 1} → statement M
 probe_entry_at_spec =

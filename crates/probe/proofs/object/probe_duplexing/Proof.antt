@@ -4,20 +4,20 @@ use mathlib.Core.List.{List}
 use mathlib.Core.Bool.{Bool, true, false, not}
 use Prim.Native.Nat.{ℕ}
 use lib.ListN.{length}
-use Rattle.refusal.specs.Seen as calls
+use Rattle.duplex.specs.Object as object
 use Rattle.duplex.specs.Object.{bit, duplexes}
 use Rattle.duplex.specs.declared.Duplex.{Duplex}
 use Rattle.duplex.specs.declared.Outcome.{Outcome}
 use Rattle.image.specs.Calls.{seen, sized}
-use Rattle.probe.specs.States.{object_of, duplex_of, of_object}
+use Rattle.probe.specs.States.{object_length, object_of, duplex_of, of_object}
 use Rattle.image.proofs.Calls.{other_length, right_length}
 use borrow.Author.Rules.{rules}
 use Rattle.probe.proofs.object.probe_duplexing.Statement.{statement}
 use Rattle.probe.proofs.object.probe_duplexing.Tie as tie
 
-duplexed_is : (done : Bool) (b b' p o o' : List ℕ) (frame : Bool) (d : Duplex) (a : Outcome) → length b ≡ 202 → d ≡ duplex_of b → calls.seen a o' ≡ duplexes d p frame o
-    → b' ≡ object_of a.duplex → a.done ≡ done → seen (bit (not done)) b' o' ≡ sized 202 b o (of_object (duplexes (duplex_of b) p frame o))
-duplexed_is done b b' p o o' frame d a h z e f g = right_length 202 b o (seen (bit (not done)) b' o') _ h (rw (f, ← g, ← z, ← e))
+duplexed_is : (done : Bool) (b b' p o o' : List ℕ) (frame : Bool) (d : Duplex) (a : Outcome) → length b ≡ object_length → d ≡ duplex_of b → object.seen a o' ≡ duplexes d p frame o
+    → b' ≡ object_of a.duplex → a.done ≡ done → seen (bit (not done)) b' o' ≡ sized object_length b o (of_object (duplexes (duplex_of b) p frame o))
+duplexed_is done b b' p o o' frame d a h z e f g = right_length object_length b o (seen (bit (not done)) b' o') _ h (rw (f, ← g, ← z, ← e))
 
 returns : tie.Need-returns
 returns c = search other_length

@@ -6,15 +6,15 @@ use lib.ListN.{length}
 use Rattle.sponge.specs.Sponge.{zeros}
 use Rattle.duplex.specs.declared.Duplex.{Duplex}
 use Rattle.image.specs.Calls.{seen, sized}
-use Rattle.probe.specs.States.{object_of}
+use Rattle.probe.specs.States.{object_length, object_of}
 use Rattle.image.proofs.Calls.{other_length, right_length}
 use borrow.Author.Rules.{rules}
 use Rattle.probe.proofs.object.probe_new_duplex.Statement.{statement}
 use Rattle.probe.proofs.object.probe_new_duplex.Tie as tie
 
-fresh_is : (b b' : List ℕ) (R : ℕ) (d : Duplex) → length b ≡ 202 → d ≡ record { lanes = zeros; rate = R } → b' ≡ object_of d
-    → seen 0 b' [] ≡ sized 202 b [] (seen 0 (object_of (record { lanes = zeros; rate = R })) [])
-fresh_is b b' R d h e f = right_length 202 b [] (seen 0 b' []) _ h (rw (f, e))
+fresh_is : (b b' : List ℕ) (R : ℕ) (d : Duplex) → length b ≡ object_length → d ≡ record { lanes = zeros; rate = R } → b' ≡ object_of d
+    → seen 0 b' [] ≡ sized object_length b [] (seen 0 (object_of (record { lanes = zeros; rate = R })) [])
+fresh_is b b' R d h e f = right_length object_length b [] (seen 0 b' []) _ h (rw (f, e))
 
 returns : tie.Need-returns
 returns c = search other_length

@@ -4,7 +4,7 @@ use mathlib.Core.List.{List, []}
 use Prim.Native.Nat.{ℕ}
 use lib.ListN.{length}
 use Rattle.spongewrap.specs.Desk.{desk, default_rate, default_tag}
-use Rattle.refusal.specs.Seen as calls
+use Rattle.spongewrap.specs.Sessions as sessions
 use Rattle.spongewrap.specs.Sessions.{opens}
 use Rattle.spongewrap.specs.declared.Answer.{Answer}
 use Rattle.image.specs.Image.{image_length, image_of}
@@ -16,7 +16,7 @@ use Rattle.probe.proofs.sessions.probe_default_open.Statement.{statement}
 use Rattle.probe.proofs.sessions.probe_default_open.Tie as tie
 
 default_opened_is : (key i i' : List ℕ) (a : Answer) → length i ≡ image_length → a ≡ opens desk key default_rate default_tag → i' ≡ image_of a.session
-    → seen a.number i' [] ≡ sized image_length i [] (of_session (calls.seen (opens desk key default_rate default_tag) []))
+    → seen a.number i' [] ≡ sized image_length i [] (of_session (sessions.seen (opens desk key default_rate default_tag) []))
 default_opened_is key i i' a h e f = right_length image_length i [] (seen a.number i' []) _ h (rw (f, e))
 
 returns : tie.Need-returns

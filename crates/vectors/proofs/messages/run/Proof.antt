@@ -1,21 +1,23 @@
--- The lines stay within their buffer, and a turn adds at most one case.
+-- What is unread stays within its buffer, the message within its own, and a turn adds at most one case.
 use mathlib.Core.Path.{◌≡◌}
 use Prim.Native.Nat.{◌≤◌, ◌-◌}
 use lib.ListN.{length}
-use Rattle.vectors.specs.Windows.{Whole}
+use Rattle.vectors.specs.Bounds.{Part, Tallied}
 use borrow.Author.Rules.{rules}
 use Rattle.vectors.proofs.messages.run.Statement.{statement}
 use Rattle.vectors.proofs.messages.run.Tie as tie
 
 abbrev invariant-loop : tie.invariant-loop
-invariant-loop hash size name fd buffer₀ window₀ bits₀ tally₀ turns₀ buffer window bits tally turns =
-    Whole window buffer × (length buffer ≡ length buffer₀) × (tally.agreed ≤ tally.run) × (tally.run ≤ turns)
+invariant-loop hash fd buffer₀ message₀ unread₀ case₀ tally₀ turns₀ buffer message unread case tally turns =
+    Part unread.start unread.end buffer
+    × (length buffer ≡ length buffer₀)
+    × (length message ≡ length message₀)
+    × (case.message ≤ length message)
+    × Tallied tally turns
 
 abbrev decreases-loop : tie.decreases-loop
-decreases-loop hash size name fd buffer₀ window₀ bits₀ tally₀ turns₀ buffer window bits tally turns = 65535 - turns
-
-loop-again : tie.Need-loop-preserved invariant-loop decreases-loop
-loop-again c = (search (rules, c.served, c.before.before.before.before.before.before.before.before.before.before.before.before.before.before.before.before.next), search (rules, c.before.before.before.before.before.before.before.before.before.before.before.before.before.before.before.before.next, c.before.before.before.before.before.before.before.before.before.before.before.before.before.before.before.before.before.before.before.loop), search rules, search (rules, c.before.before.before.before.before.before.before.before.before.before.before.before.before.before.before.before.before.before.before.loop))
+decreases-loop hash fd buffer₀ message₀ unread₀ case₀ tally₀ turns₀ buffer message unread case tally turns =
+    65536 - turns
 
 pub run_spec : {M : Type 1} → statement M
 run_spec =
@@ -24,8 +26,6 @@ run_spec =
     invariant-loop
     decreases-loop
     (λ c κs. search rules)
-    (λ c κs. search rules)
-    (λ c. search rules)
     (λ c. search rules)
     (λ c κs. search rules)
     (λ c. search rules)
@@ -33,19 +33,11 @@ run_spec =
     (λ c. search rules)
     (λ c. search rules)
     (λ c. search rules)
-    (λ c κs. search rules)
-    (λ c. search rules)
-    (λ c. search rules)
-    (λ c. search rules)
-    (λ c κs. search rules)
-    (λ c. search rules)
-    (λ c. search rules)
     (λ c. search rules)
     (λ c κs. search rules)
     (λ c κs. search rules)
-    (λ c κs. search rules)
     (λ c. search rules)
-    loop-again
+    (λ c. search rules)
     (λ c. search rules)
     (λ c. search rules)
     (λ c. search rules)

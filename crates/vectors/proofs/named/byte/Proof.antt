@@ -1,6 +1,6 @@
 -- A digit's value tells whether it is one.
 use native.Mathlib.Omega.{arith}
-use Rattle.vectors.proofs.Fields.{byte_is}
+use Rattle.vectors.proofs.Spelled.{byte_is}
 use borrow.Author.Rules.{rules}
 use Rattle.vectors.proofs.named.byte.Statement.{statement}
 use Rattle.vectors.proofs.named.byte.Tie as tie

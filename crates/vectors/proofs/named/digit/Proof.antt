@@ -1,7 +1,7 @@
 -- The tests of the match place the byte.
 use native.Mathlib.Omega.{arith}
 use borrow.Author.Rules.{rules}
-use Rattle.vectors.proofs.Fields.{digit_is}
+use Rattle.vectors.proofs.Spelled.{digit_is}
 use Rattle.vectors.proofs.named.digit.Statement.{statement}
 use Rattle.vectors.proofs.named.digit.Tie as tie
 

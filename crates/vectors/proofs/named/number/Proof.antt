@@ -2,7 +2,7 @@
 use Prim.Native.Nat.{◌≤◌, ◌<◌, ◌-◌}
 use native.Mathlib.Omega.{arith}
 use lib.ListN.{length}
-use Rattle.vectors.proofs.Fields.{Read, read_none, read_more, read_stop, read_all}
+use Rattle.vectors.proofs.Spelled.{Read, read_none, read_more, read_stop, read_all}
 use borrow.Author.Rules.{rules}
 use Rattle.vectors.proofs.named.number.Statement.{statement}
 use Rattle.vectors.proofs.named.number.Tie as tie

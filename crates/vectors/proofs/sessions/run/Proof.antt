@@ -1,36 +1,28 @@
--- The lines stay within their buffer, and a turn adds at most one case.
+-- What is unread and the parts of a pair stay within their buffers, and a turn adds at most one case.
+-- The loop's record lies past the 128 that `search` enters by itself, so it is listed.
 use mathlib.Core.Path.{◌≡◌}
-use Prim.Native.Nat.{◌≤◌, ◌-◌}
+use Prim.Native.Nat.{◌-◌}
 use lib.ListN.{length}
-use Rattle.vectors.specs.Windows.{Whole}
+use Rattle.vectors.specs.Bounds.{Part, Tallied, Within}
 use borrow.Author.Rules.{rules}
 use Rattle.vectors.proofs.sessions.run.Statement.{statement}
 use Rattle.vectors.proofs.sessions.run.Tie as tie
 
 abbrev invariant-loop : tie.invariant-loop
-invariant-loop fd buffer₀ window₀ course₀ tally₀ turns₀ buffer window course tally turns =
-    Whole window buffer × (length buffer ≡ length buffer₀) × (tally.agreed ≤ tally.run) × (tally.run ≤ turns)
+invariant-loop fd buffer₀ header₀ body₀ due₀ unread₀ reading₀ turns₀ buffer header body due unread reading turns =
+    Part unread.start unread.end buffer
+    × (length buffer ≡ length buffer₀)
+    × (length header ≡ length header₀)
+    × (length body ≡ length body₀)
+    × (length due ≡ length due₀)
+    × Within reading.pair header body due
+    × Tallied reading.tally turns
 
 abbrev decreases-loop : tie.decreases-loop
-decreases-loop fd buffer₀ window₀ course₀ tally₀ turns₀ buffer window course tally turns = 65535 - turns
+decreases-loop fd buffer₀ header₀ body₀ due₀ unread₀ reading₀ turns₀ buffer header body due unread reading turns = 65535 - turns
 
-loop-less-2 : tie.Need-loop-smaller-2 invariant-loop decreases-loop
-loop-less-2 c = search (rules, c.before.before.before.before.before.before.before.before.before.before.before.before.before.before.before.loop-test)
-
-loop-again-2 : tie.Need-loop-preserved-2 invariant-loop decreases-loop
-loop-again-2 c = (search (rules, c.before.before.before.before.served, c.before.before.before.before.before.before.before.before.before.before.before.before.before.next), search (rules, c.before.before.before.before.before.before.before.before.before.before.before.before.before.next, c.before.before.before.before.before.before.before.before.before.before.before.before.before.before.before.before.loop), search (rules, c.before.before.before.before.before.before.before.before.before.before.before.before.before.before.before.before.loop), search (rules, c.before.before.before.before.before.before.before.before.before.before.before.before.before.before.before.before.loop))
-
-loop-less-3 : tie.Need-loop-smaller-3 invariant-loop decreases-loop
-loop-less-3 c = search (rules, c.before.before.before.before.before.before.before.before.before.before.before.before.before.before.before.before.loop-test)
-
-loop-again-3 : tie.Need-loop-preserved-3 invariant-loop decreases-loop
-loop-again-3 c = (search (rules, c.before.before.before.before.before.served, c.before.before.before.before.before.before.before.before.before.before.before.before.before.before.next), search (rules, c.before.before.before.before.before.before.before.before.before.before.before.before.before.before.next, c.before.before.before.before.before.before.before.before.before.before.before.before.before.before.before.before.before.loop), search (rules, c.before.before.before.before.before.before.before.before.before.before.before.before.before.before.before.before.before.loop), search (rules, c.before.before.before.before.before.before.before.before.before.before.before.before.before.before.before.before.before.loop))
-
-loop-less-4 : tie.Need-loop-smaller-4 invariant-loop decreases-loop
-loop-less-4 c = search (rules, c.before.before.before.before.before.before.before.before.before.before.before.before.before.before.before.before.before.loop-test)
-
-loop-again-4 : tie.Need-loop-preserved-4 invariant-loop decreases-loop
-loop-again-4 c = (search (rules, c.before.before.before.before.before.before.served, c.before.before.before.before.before.before.before.before.before.before.before.before.before.before.before.next), search (rules, c.before.before.before.before.before.before.before.before.before.before.before.before.before.before.before.next, c.before.before.before.before.before.before.before.before.before.before.before.before.before.before.before.before.before.before.loop), search rules, search (rules, c.before.before.before.before.before.before.before.before.before.before.before.before.before.before.before.before.before.before.loop))
+loop-again : tie.Need-loop-preserved invariant-loop decreases-loop
+loop-again c = search (rules, c.before.before.before.before.before.before.before.before.before.before.before.before.turned, c.before.before.before.before.before.before.before.before.before.before.before.before.before.before.before.before.before.before.loop)
 
 pub run_spec : {M : Type 1} → statement M
 run_spec =
@@ -41,37 +33,16 @@ run_spec =
     (λ c κs. search rules)
     (λ c. search rules)
     (λ c κs. search rules)
-    (λ c κs. search rules)
-    (λ c. search rules)
-    (λ c. search rules)
-    (λ c κs. search rules)
-    (λ c. search rules)
-    (λ c. search rules)
-    (λ c. search rules)
-    (λ c. search rules)
-    (λ c. search rules)
-    (λ c κs. search rules)
-    (λ c. search rules)
-    (λ c. search rules)
-    (λ c κs. search rules)
+    (λ c. search (rules, c.before.before.before.before.before.before.before.before.before.before.before.before.before.before.before.before.before.before.before.loop))
+    (λ c. search (rules, c.before.before.before.before.before.before.before.before.before.before.before.before.before.before.before.before.before.before.before.loop))
+    (λ c. search (rules, c.before.before.before.before.before.before.before.before.before.before.before.before.before.before.before.before.before.before.before.loop))
+    (λ c. search (rules, c.before.before.before.before.before.before.before.before.before.before.before.before.before.before.before.before.before.before.before.loop))
     (λ c. search rules)
     (λ c. search rules)
     (λ c. search rules)
-    (λ c κs. search rules)
-    loop-less-2
-    loop-again-2
+    loop-again
     (λ c. search rules)
     (λ c. search rules)
     (λ c. search rules)
-    (λ c κs. search rules)
-    loop-less-3
-    loop-again-3
-    (λ c. search rules)
-    (λ c. search rules)
-    (λ c. search rules)
-    (λ c κs. search rules)
-    (λ c κs. search rules)
-    loop-less-4
-    loop-again-4
     (λ c. search rules)
     (λ c. search rules))

@@ -1,6 +1,6 @@
 -- The test is the definition's.
 use native.Mathlib.Omega.{arith}
-use Rattle.vectors.proofs.Fields.{equal}
+use Rattle.vectors.proofs.Spelled.{equal}
 use Rattle.vectors.proofs.tally.Tally.first_differing.Statement.{statement}
 use Rattle.vectors.proofs.tally.Tally.first_differing.Tie as tie
 

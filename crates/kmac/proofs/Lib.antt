@@ -1,4 +1,0 @@
-pub mod Encoding
-pub mod Settle
-pub mod Theorems
-pub mod Outcomes

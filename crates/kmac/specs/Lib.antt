@@ -1,4 +1,0 @@
-pub mod Encodings
-pub mod Functions
-pub mod Refusals
-pub mod Answers
