@@ -1,5 +1,6 @@
 // The front desk: the office seals a bundle, the desk surveys and opens it, what is damaged is refused, and both go on by turns, told
 // line by line. Key, label and members are made up. Everything that matters is in the library; this calls and prints.
+#![tactic(auto)]
 mod desk; // desk.rt: the bundle surveyed and opened, and what is refused
 mod exchange; // exchange.rt: pairs outside the bundle, by running sessions
 mod lines; // lines.rt: what is printed

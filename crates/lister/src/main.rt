@@ -1,5 +1,6 @@
 // Lists the bundle that stands on standard input: its entries, and the permutation calls that opening them takes.
 // Everything that matters is in the library; this reads, calls and prints.
+#![tactic(auto)]
 ghost use Rattle.std.specs.Prelude.{◌+◌, ◌≤◌};
 
 use bundle::{Entry, Surveyed};

@@ -1,4 +1,5 @@
 // The running session, advanced where it stands: thin functions over the calls that take a session and hand one back.
+#![tactic(auto)]
 ghost use Rattle.std.specs.Prelude.{◌≡◌};
 ghost use Rattle.spongewrap.specs.Sessions.{seen, wraps, unwraps};
 ghost use Rattle.spongewrap.specs.Desk.{desk};

@@ -1,6 +1,7 @@
 // Runs every case of NIST's response files for SHA3-256, SHAKE128 and SHAKE256 through the library, and of the files of sessions
 // and bundles that a program apart from it made, and prints for each file how many cases it has, how many agree, and the first that
 // does not. Then document 01's examples that are run.
+#![tactic(auto)]
 mod bundles;
 mod chains;
 mod entries;

@@ -1,0 +1,17 @@
+-- `Squeezed` says what is written where the loop stands, over any step from state to state: here the blank duplexing.
+use borrow.Author.Rules.{rules}
+use Prim.Native.Nat.{◌-◌}
+use Rattle.sponge.proofs.Turns.{wrote_none}
+use Rattle.sponge.proofs.Squeeze.{given-length, squeezed_more, squeezed_last, squeezed_state}
+use Rattle.duplex.specs.Duplex.{drawn, state_after}
+use Rattle.duplex.proofs.drawn_into.Goals as goal
+
+pub loop-out-init : goal.loop-out-init
+loop-out-init c = (search rules, search rules, search rules, wrote_none _ _ _ _ _ (given-length _ _ (search rules)) (search rules) _)
+
+pub loop-out-preserved : goal.loop-out-preserved
+loop-out-preserved c = (search rules, search rules, search rules, search (rules, squeezed_more))
+
+pub returns : goal.returns
+unfolding drawn state_after
+returns c = (search (rules, squeezed_state), search (rules, squeezed_last))

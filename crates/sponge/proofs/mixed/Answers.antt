@@ -1,0 +1,16 @@
+-- The loop's invariant: the block's first j lanes are mixed in.
+use borrow.Author.Rules.{rules}
+use Prim.Native.Nat.{◌*◌, ◌-◌}
+use native.Mathlib.Omega.{arith}
+use Rattle.sponge.proofs.Taken.{mixed_none, mixed_more, mixed_all}
+use Rattle.sponge.proofs.mixed.Goals as goal
+
+pub loop-j-init : goal.loop-j-init
+loop-j-init c = (search rules, mixed_none 64 _ (search rules))
+
+pub loop-j-preserved : goal.loop-j-preserved
+loop-j-preserved c =
+    (search rules, mixed_more 64 (omega arith) _ _ _ _ _ (search rules) c.loop-j.invariant.1 c.lane_of.ensures)
+
+pub returns : goal.returns
+returns c = mixed_all _ _ _ _ (8 * c.loop-j.j) c.loop-j.invariant.1 (search rules)
