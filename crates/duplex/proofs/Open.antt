@@ -1,5 +1,5 @@
 -- Opening is a loop over the ciphertext's pieces: each is unmasked by the state before it, and what it gives is absorbed and written.
-use mathlib.Core.Path.{◌≡◌, refl, ap, ◌∙◌}
+use mathlib.Core.Path.{◌≡◌, refl, ap, subst, ◌∙◌}
 use mathlib.Core.List.{List, [], ◌∷◌, ◌++◌}
 use Prim.Native.Nat.{ℕ, zero, suc, ◌-◌, ◌*◌, ◌≤◌, ◌<◌}
 use native.Mathlib.Nat.{suc-mul, le_refl}
@@ -7,7 +7,7 @@ use native.Mathlib.Omega.{arith}
 use lib.ListN.{length}
 use Rattle.sponge.specs.Bytes.{bytes}
 use Rattle.sponge.specs.Pieces.{piece, blocks_of, before}
-use Rattle.sponge.specs.Sponge.{absorb}
+use Rattle.sponge.specs.Sponge.{absorb, absorb_block}
 use Rattle.sponge.proofs.Pieces.{before_low, piece_end, blocks_of_front, length-piece, absorb_more}
 use Rattle.sponge.proofs.Turns.{reached, wrote, written, length-wrote, length-written, piece_written}
 use Rattle.duplex.specs.Duplex.{framed, duplexing}
@@ -27,10 +27,20 @@ front_next R b P X k h l =
     rw (blocks_of_front (R - 1) (framed R b) P X k (omega arith), piece_end (R - 1) P X k h l)
 
 module _ (w : ℕ) (f : List ℕ → List ℕ) (R : ℕ) (a c : List ℕ) where
+  -- the state s after the whole pieces of P, and the one that its next piece X takes it to
+  front_taken : (k : ℕ) (u P X s : List ℕ) → u ≡ P ++ X → length P ≡ k * (R - 1) → length X ≤ R - 1
+      → absorb w f a (front R 1 P k) ≡ s → absorb w f a (front R 1 u (suc k)) ≡ duplexing w f R s X 1
+  unfolding duplexing
+  front_taken k u P X s e h l q =
+      ap (λ v. absorb w f a (front R 1 v (suc k))) e
+      ∙ ap (absorb w f a) (front_next R 1 P X k h l)
+      ∙ absorb_more w f a (front R 1 P k) (framed R 1 X)
+      ∙ ap (λ v. absorb_block w f v (framed R 1 X)) q
+
   -- states and plaintext, k pieces of it: the states are those that absorbing the plaintext leaves
   unmasked_is : (k : ℕ) → k * (R - 1) ≤ length c
       → (unmasked w f R a c k ≡ wrote (R - 1) (taken_unmasked w f R 1) (mask w) c a k) × (absorb w f a (front R 1 (unmasked w f R a c k) k) ≡ reached (R - 1) (taken_unmasked w f R 1) c a k)
-  unfolding unmasked wrote reached front blocks_of absorb duplexing
+  unfolding unmasked wrote reached front blocks_of absorb
   unmasked_is zero h = (refl, refl)
   unmasked_is (suc k) h =
       let i = unmasked_is k (omega (arith, suc-mul k (R - 1))) in
@@ -40,7 +50,9 @@ module _ (w : ℕ) (f : List ℕ → List ℕ) (R : ℕ) (a c : List ℕ) where
       let e : unmasked w f R a c (suc k) ≡ P ++ X = rw (i.1, i.0) in
       let lp : length P ≡ k * (R - 1) = length-wrote (R - 1) (taken_unmasked w f R 1) (mask w) c a (mask-length w (R - 1)) k (omega (arith, suc-mul k (R - 1))) in
       let lx : length X ≤ R - 1 = omega (arith, length-xored (piece (R - 1) c k) z, length-piece (R - 1) c k) in
-      (e, rw (e, front_next R 1 P X k lp lx, absorb_more, ← i.0, i.1))
+      let q : absorb w f a (front R 1 P k) ≡ reached (R - 1) (taken_unmasked w f R 1) c a k =
+          subst (λ v. absorb w f a (front R 1 v k) ≡ reached (R - 1) (taken_unmasked w f R 1) c a k) i.0 i.1 in
+      (e, front_taken k _ P X _ e lp lx q)
 
   pub opened_written : opened w f R a c ≡ written (R - 1) (taken_unmasked w f R 1) (mask w) c a
   unfolding opened written wrote unmasked blocks
