@@ -25,7 +25,7 @@ pub const OTHER_VERSION: u8 = 10;
 pub const NO_LABEL: u8 = 11;
 
 // What stands at a place: a whole entry, or why there is none.
-#[derive(Drop)]
+#[derive(Clone, Copy)]
 pub enum Entry {
     // The lengths of its header and body, and the place after it.
     Whole {
@@ -42,7 +42,7 @@ pub enum Entry {
 }
 
 // A survey's answer: the number of entries, or a refusal.
-#[derive(Drop)]
+#[derive(Clone, Copy)]
 pub enum Surveyed {
     Entries(usize),
     Refused { number: u8, place: usize },
@@ -50,7 +50,7 @@ pub enum Surveyed {
 
 // What a call with a session answers: 0 or a refusal's number, a refusal's place, the place of the entry after one that opened,
 // and a session. Where there is no such place it is 0.
-#[derive(Drop)]
+#[derive(Clone, Copy)]
 pub struct Reply {
     pub number: u8,
     pub place: usize,
@@ -59,7 +59,7 @@ pub struct Reply {
 }
 
 // A refusal that is not answered yet; number 0 refuses nothing.
-#[derive(Drop)]
+#[derive(Clone, Copy)]
 struct Refusal {
     pub number: u8,
     pub place: usize,

@@ -10,14 +10,14 @@ ghost use Rattle.duplex.specs.Strings.{xored, absorbed, sealed, opened};
 ghost use Rattle.duplex.specs.Object.{bit, duplex_refused, seen, duplexes};
 
 // A duplex object: the state, and how many bytes of it a block covers.
-#[derive(Drop)]
+#[derive(Clone, Copy)]
 pub struct Duplex {
     pub lanes: [u64; 25],
     pub rate: u16,
 }
 
 // What a call answers: whether it was done, and the object after it.
-#[derive(Drop)]
+#[derive(Clone, Copy)]
 pub struct Outcome {
     pub done: bool,
     pub duplex: Duplex,

@@ -15,7 +15,7 @@ ghost use Rattle.spongewrap.specs.Sessions.{none, opens, advanced, next, sealing
 ghost use Rattle.spongewrap.specs.Desk.{desk, default_rate, default_tag};
 
 // What a session is: the state, its settings, and how many pairs and permutation calls brought it here.
-#[derive(Drop)]
+#[derive(Clone, Copy)]
 pub struct Session {
     pub lanes: [u64; 25],
     pub rate: u16,
@@ -25,7 +25,7 @@ pub struct Session {
 }
 
 // What a call answers: 0 or a refusal's number, and a session.
-#[derive(Drop)]
+#[derive(Clone, Copy)]
 pub struct Answer {
     pub number: u8,
     pub session: Session,
@@ -151,7 +151,7 @@ pub fn wrap(s: Session, header: &[u8], body: &[u8], out: &mut [u8]) -> Answer
 }
 
 // A tag looked at: whether it is the right one, and the state after the right one.
-#[derive(Drop)]
+#[derive(Clone, Copy)]
 struct Checked {
     pub right: bool,
     pub lanes: [u64; 25],
