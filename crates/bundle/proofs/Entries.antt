@@ -3,16 +3,13 @@ use Prim.Native.Nat.{ℕ, zero, suc, ◌+◌, ◌-◌, ◌≤◌, ◌<◌}
 use native.Mathlib.Omega.{arith}
 use mathlib.Core.Path.{◌≡◌, refl, sym, ◌∙◌}
 use mathlib.Core.List.{List, [], ◌∷◌}
-use mathlib.Core.Logic.{◌⊎◌, inl, inr}
 use mathlib.Core.Bool.{Bool, true, false}
 use lib.ListN.{length, get_or}
 use lib.Dec.{ltb}
 use borrow.Author.Tests.{lt-ltb, le-ltb, ltb-false, eq-eqb, ne_eqb}
-use denote.Enum.Declared.{tag_of}
 use Rattle.fields.specs.Numbers.{number_at}
 use Rattle.refusal.specs.Rows.{by, pick}
 use Rattle.spongewrap.specs.Refusals.{most_pairs, most_body, long_body}
-use Rattle.bundle.specs.contracts.Entry.{the_type}
 use Rattle.bundle.specs.declared.Entry.{Entry}
 use Rattle.bundle.specs.declared.Entry.TheVariants.{Whole, Short, Large, Past}
 use Rattle.bundle.specs.Format.{Version, most, header_length, body_length, next_at, WholeAt, entry_at}
@@ -62,11 +59,9 @@ whole_at v b place h m n e =
     let x : next_at v b place ≤ length b = ltb-false (length b) (next_at v b place) r.0 in
     record { is_header = sym eh; is_body = sym em; is_next = sym en; small = omega arith; ends = omega arith }
 
--- an entry that is none of `Whole` is refused
-pub not_whole : (e : Entry) (place : ℕ) → (tag_of the_type e ≡ 1) ⊎ ((tag_of the_type e ≡ 2) ⊎ (tag_of the_type e ≡ 3)) → (entry_told e place).number ≡ 0 → ⊥
-not_whole (Whole h m n) place (inl k) z = omega arith
-not_whole (Whole h m n) place (inr (inl k)) z = omega arith
-not_whole (Whole h m n) place (inr (inr k)) z = omega arith
+-- an entry that is no `Whole` one is refused
+pub not_whole : (e : Entry) (place : ℕ) → ((h m n : ℕ) → e ≡ Whole h m n → ⊥) → (entry_told e place).number ≡ 0 → ⊥
+not_whole (Whole h m n) place k z = k h m n refl
 not_whole Short place k z = omega arith
 not_whole Large place k z = omega arith
 not_whole Past place k z = omega arith

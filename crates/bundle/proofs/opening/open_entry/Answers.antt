@@ -17,8 +17,8 @@ returns-in_default c =
     rw c.refuse-in_default.ensures
     (let e = c.entry_at-entry in
     open_bad _ _ _ _ _ e.result _ _ (sym c.own_refusal-number.ensures ∙ c.if-number-ne0.false) e.ensures
-    (not_whole e.result _ c.in_default.keys2) c.entry_refusal-r.ensures.0 c.entry_refusal-r.ensures.1)
+    (not_whole e.result _ c.in_default.not-Whole) c.entry_refusal-r.ensures.0 c.entry_refusal-r.ensures.1)
 
 pub open_whole-requires : goal.open_whole-requires
 open_whole-requires c =
-    (sym c.own_refusal-number.ensures ∙ c.if-number-ne0.false, sym c.entry_at-entry.ensures ∙ c.entry-1.given.1)
+    (sym c.own_refusal-number.ensures ∙ c.if-number-ne0.false, sym c.entry_at-entry.ensures ∙ c.in-Whole.is)

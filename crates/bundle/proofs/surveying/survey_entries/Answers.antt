@@ -18,18 +18,18 @@ pub returns-in_default : goal.returns-in_default
 returns-in_default c =
     let l = c.loop-place in
     walk_bad _ _ l.place l.count (search rules) (search rules) c.entry_at-entry.result _ _ c.entry_at-entry.ensures
-    (not_whole c.entry_at-entry.result l.place c.in_default.keys2) c.entry_refusal-r.ensures.0 c.entry_refusal-r.ensures.1
+    (not_whole c.entry_at-entry.result l.place c.in_default.not-Whole) c.entry_refusal-r.ensures.0 c.entry_refusal-r.ensures.1
     ∙ sym l.invariant.0
 
 pub loop-place-smaller : goal.loop-place-smaller
 loop-place-smaller c =
-    let w = whole_at _ _ _ _ _ _ (sym c.entry_at-entry.ensures ∙ c.entry-1.given.1) in
+    let w = whole_at _ _ _ _ _ _ (sym c.entry_at-entry.ensures ∙ c.in-Whole.is) in
     omega arith
 
 pub loop-place-preserved : goal.loop-place-preserved
 loop-place-preserved c =
     let l = c.loop-place in
-    let e = sym c.entry_at-entry.ensures ∙ c.entry-1.given.1 in
+    let e = sym c.entry_at-entry.ensures ∙ c.in-Whole.is in
     (l.invariant.0 ∙ walk_next _ _ l.place l.count (search rules) (search rules) _ _ _ e, search rules)
 
 pub returns-then-is_unlabelled : goal.returns-then-is_unlabelled

@@ -4,4 +4,4 @@ use Rattle.bundle.proofs.Stores.{end_held}
 use Rattle.bundle.proofs.writing.end_with.Goals as goal
 
 pub returns : goal.returns
-returns c = omega (arith, end_held _ c.end_of_lem.ensures.0 c.requires.0)
+returns c = omega (arith, end_held _ c.end_of.ensures.0 c.requires.0)

@@ -3,26 +3,30 @@ use Prim.Native.Nat.{◌≤◌}
 use mathlib.Core.Path.{sym, ◌∙◌}
 use borrow.Author.Rules.{rules}
 use Rattle.refusal.proofs.Tests.{inside}
+use Rattle.bundle.specs.Writing.{start_table}
 use Rattle.bundle.proofs.Tables.{tables, calls}
 use Rattle.bundle.proofs.writing.start_refusal.Goals as goal
 
-small : (c : tie.Else2) → c.before.before.before.before.args.label ≤ 64
-small c = (inside _ _ c.before.before.before.before.args.label (sym c.before.bad-label.ensures ∙ c.if2.false)).1
-
 pub returns-then-number-ne0 : goal.returns-then-number-ne0
+unfolding start_table
 returns-then-number-ne0 c = search (rules, tables, calls)
 
 pub returns-then-bad_label : goal.returns-then-bad_label
+unfolding start_table
 returns-then-bad_label c = search (rules, tables, calls)
 
 pub entry_size-requires : goal.entry_size-requires
-entry_size-requires c = search (rules, small c)
+unfolding start_table
+entry_size-requires c = let h = (inside _ _ c.args.label (sym c.bad_label.ensures ∙ c.if-bad_label.false)).1 in search rules
 
 pub overflow_add-entry_size : goal.overflow_add-entry_size
-overflow_add-entry_size c = search (rules, small c.before)
+unfolding start_table
+overflow_add-entry_size c = let h = (inside _ _ c.args.label (sym c.bad_label.ensures ∙ c.if-bad_label.false)).1 in search rules
 
 pub returns-then-room-entry_size : goal.returns-then-room-entry_size
+unfolding start_table
 returns-then-room-entry_size c = search (rules, tables, calls) depth 8
 
 pub returns : goal.returns
+unfolding start_table
 returns c = search (rules, tables, calls) depth 8

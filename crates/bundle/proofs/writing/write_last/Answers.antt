@@ -6,8 +6,8 @@ use Rattle.bundle.proofs.writing.write_last.Goals as goal
 
 pub write_entry-session-requires : goal.write_entry-session-requires
 write_entry-session-requires c =
-    let h = end_held _ c.end_of_lem.ensures.0 (omega arith) in
+    let h = end_held _ c.end_of-end.ensures.0 (omega arith) in
     (search rules, omega arith)
 
 pub returns : goal.returns
-returns c = (search rules, search last_written)
+returns c = (search rules, search (rules, last_written))
