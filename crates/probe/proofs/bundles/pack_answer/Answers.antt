@@ -5,9 +5,7 @@ use Rattle.refusal.specs.Rows.{by}
 use Rattle.refusal.proofs.Rows.{kept}
 use Rattle.bundle.specs.declared.Reply.{Reply}
 use Rattle.probe.specs.Bundles.{packed, packed_answer}
-use borrow.Author.Rules.{rules}
-use Rattle.probe.proofs.bundles.pack_answer.Statement.{statement}
-use Rattle.probe.proofs.bundles.pack_answer.Tie as tie
+use Rattle.probe.proofs.bundles.pack_answer.Goals as goal
 
 place_packed : (a : Reply) (n : ℕ) → (a.number ≡ 0 → ⊥) → n ≡ packed a.number a.place → n ≡ packed_answer a
 place_packed a n d e = rw (kept a.number a.place a.next d) e
@@ -16,11 +14,8 @@ next_packed : (a : Reply) (n : ℕ) → a.number ≡ 0 → n ≡ packed 0 a.next
 unfolding by
 next_packed a n z e = rw z e
 
-returns : tie.Need-returns
-returns c = search place_packed
+pub returns-then-number-ne0 : goal.returns-then-number-ne0
+returns-then-number-ne0 c = search place_packed
 
-returns-2 : tie.Need-returns-2
-returns-2 c = search next_packed
-
-pub pack_answer_spec : {M : Type 1} → statement M
-pack_answer_spec = tie.close (tie.spec (λ c κs. search rules) returns (λ c κs. search rules) returns-2)
+pub returns : goal.returns
+returns c = search next_packed

@@ -12,20 +12,15 @@ use Rattle.sponge.proofs.Squeeze.{length-bytes}
 use Rattle.image.specs.Calls.{seen, sized}
 use Rattle.probe.specs.States.{lanes_of}
 use Rattle.image.proofs.Calls.{other_length, right_length}
-use borrow.Author.Rules.{rules}
-use Rattle.probe.proofs.hashing.probe_permute_times.Statement.{statement}
-use Rattle.probe.proofs.hashing.probe_permute_times.Tie as tie
+use Rattle.probe.proofs.hashing.probe_permute_times.Goals as goal
 
 permuted_is : (b b' l p : List ℕ) (times : ℕ) → length b ≡ 200 → l ≡ lanes_of b → p ≡ iterate f1600 l times → b' ≡ take (length b) (bytes 64 p)
     → seen 0 b' [] ≡ sized 200 b [] (seen 0 (bytes 64 (iterate f1600 (lanes_of b) times)) [])
 permuted_is b b' l p times h e f g =
     right_length 200 b [] (seen 0 b' []) _ h (rw (g, take_all (length b) (bytes 64 p) (omega (arith, length-bytes 64 p)), f, e))
 
-returns : tie.Need-returns
-returns c = search other_length
+pub returns-then-state-ne-STATE : goal.returns-then-state-ne-STATE
+returns-then-state-ne-STATE c = search other_length
 
-returns-2 : tie.Need-returns-2
-returns-2 c = search permuted_is
-
-pub probe_permute_times_spec : {M : Type 1} → statement M
-probe_permute_times_spec = tie.close (tie.spec returns (λ c κs. search rules) (λ c κs. search rules) (λ c κs. search rules) (λ c. search rules) returns-2)
+pub returns : goal.returns
+returns c = search permuted_is

@@ -1,0 +1,10 @@
+-- An image of another length is refused; else the session that the call left is laid over it.
+use Rattle.image.proofs.Calls.{other_length}
+use Rattle.probe.proofs.Buffers.{started_is}
+use Rattle.probe.proofs.bundles.probe_start.Goals as goal
+
+pub returns-then-image-ne-LENGTH : goal.returns-then-image-ne-LENGTH
+returns-then-image-ne-LENGTH c = search other_length
+
+pub returns : goal.returns
+returns c = search started_is
