@@ -1,6 +1,7 @@
 // Bundles, version 1: the pairs of one session, end to end in one buffer.
 // A bundle is surveyed as it stands; its entries are opened one by one, and it is started and added to in place.
 #![tactic(auto)]
+
 mod format; // format.rt: the format, and the entry rules
 mod surveying; // surveying.rt: whether bytes are a bundle
 mod opening; // opening.rt: opening the entry at a place

@@ -1,5 +1,6 @@
 // Whether two strings are the same, looked at to the last byte.
 #![tactic(auto)]
+
 ghost use Rattle.std.specs.Prelude.{◌≡◌, length};
 ghost use Rattle.compare.specs.Same.{same};
 

@@ -1,5 +1,6 @@
 // What the desks' C program calls. A slice passes as a pointer and a length; include/feefledown.h declares them.
 #![tactic(auto)]
+
 ghost use Rattle.std.specs.Prelude.{◌≡◌, []};
 ghost use Rattle.image.specs.Calls.{seen, opens_image, wraps_image, unwraps_image};
 ghost use Rattle.desk.specs.Desk.{desk_rate, desk_tag, hashed, hashes};

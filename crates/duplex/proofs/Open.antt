@@ -51,7 +51,7 @@ module _ (w : ℕ) (f : List ℕ → List ℕ) (R : ℕ) (a c : List ℕ) where
       let lp : length P ≡ k * (R - 1) = length-wrote (R - 1) (taken_unmasked w f R 1) (mask w) c a (mask-length w (R - 1)) k (omega (arith, suc-mul k (R - 1))) in
       let lx : length X ≤ R - 1 = omega (arith, length-xored (piece (R - 1) c k) z, length-piece (R - 1) c k) in
       let q : absorb w f a (front R 1 P k) ≡ reached (R - 1) (taken_unmasked w f R 1) c a k =
-          subst (λ v. absorb w f a (front R 1 v k) ≡ reached (R - 1) (taken_unmasked w f R 1) c a k) i.0 i.1 in
+      subst (λ v. absorb w f a (front R 1 v k) ≡ reached (R - 1) (taken_unmasked w f R 1) c a k) i.0 i.1 in
       (e, front_taken k _ P X _ e lp lx q)
 
   pub opened_written : opened w f R a c ≡ written (R - 1) (taken_unmasked w f R 1) (mask w) c a

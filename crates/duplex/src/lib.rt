@@ -1,6 +1,7 @@
 // The duplex over Keccak-f[1600]: framed pieces go in one by one, and each leaves output that depends on all before it.
 // This is the duplex object of "Duplexing the sponge"; below it stand the string functions that SpongeWrap is made of.
 #![tactic(auto)]
+
 ghost use Rattle.std.specs.Prelude.{◌≡◌, ◌++◌, ◌<◌, ◌≤◌, length, drop};
 ghost use Rattle.keccak.specs.Rounds.{f1600};
 ghost use Rattle.sponge.specs.Bytes.{bytes};

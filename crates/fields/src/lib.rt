@@ -1,5 +1,6 @@
 // Fields of a byte buffer: big-endian numbers of two, four and eight bytes, and strings, read and stored at a place.
 #![tactic(auto)]
+
 ghost use Rattle.std.specs.Prelude.{◌≡◌, ◌+◌, ◌*◌, ◌≤◌, length};
 ghost use Rattle.std.proofs.lemmas.List.Edits.{sets};
 ghost use Rattle.fields.specs.Numbers.{number_at, bytes_of};

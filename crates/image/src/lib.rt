@@ -1,5 +1,6 @@
 // A session as an image of 216 bytes, in which it travels between a desk's calls, and the calls over it.
 #![tactic(auto)]
+
 ghost use Rattle.std.specs.Prelude.{◌≡◌, [], length};
 ghost use Rattle.refusal.specs.Rows.{by};
 ghost use Rattle.image.specs.Image.{image_length, image_of, session_of};

@@ -1,6 +1,7 @@
 // Keccak-f[1600], the permutation of FIPS 202 on 25 lanes of 64 bits: lane (x, y) stands at x + 5 y.
 // Each step is a function of its own over arrays by value; compiled, they become one loop over the rounds.
 #![tactic(auto)]
+
 ghost use Rattle.std.specs.Prelude.{◌≡◌, ◌≤◌};
 ghost use Rattle.keccak.specs.Steps.{parities, effects, spread, theta, rho, pi, chi, chi_row, iota};
 ghost use Rattle.keccak.specs.Rounds.{round, f1600};

@@ -1,5 +1,6 @@
 // Exports for tests and benchmarks, and nothing else: what the desks call is in `desk`.
 #![tactic(auto)]
+
 mod hashing; // hashing.rt: the permutation and the hashes
 mod object; // object.rt: the duplex object
 mod sessions; // sessions.rt: sessions that travel as images

@@ -1,5 +1,6 @@
 // What is refused, and by which number. Nobody else spells a number out; a bundle's own, from 9 on, are the format's.
 #![tactic(auto)]
+
 ghost use Rattle.std.specs.Prelude.{◌≡◌, ◌+◌};
 ghost use Rattle.refusal.specs.Rows.{outside, short};
 

@@ -1,5 +1,6 @@
 // The running session, advanced where it stands: thin functions over the calls that take a session and hand one back.
 #![tactic(auto)]
+
 ghost use Rattle.std.specs.Prelude.{◌≡◌};
 ghost use Rattle.spongewrap.specs.Sessions.{seen, wraps, unwraps};
 ghost use Rattle.spongewrap.specs.Desk.{desk};
@@ -33,7 +34,7 @@ pub fn unwrap_in_place(
 }
 
 // The same for a caller that holds its session as a value: it is put where `wrap_in_place` can advance it, and the advanced one is handed
-// back. Programs call this one: the checker follows a reference that a function is given, and not one that it makes itself.
+// back.
 pub fn wrap_lent(s: Session, header: &[u8], body: &[u8], out: &mut [u8]) -> Answer
     ensures { seen result out.new ≡ wraps desk s header.now body.now out.old }
 {

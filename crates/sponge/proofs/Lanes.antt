@@ -1,7 +1,7 @@
 -- Bytes and lanes are one-to-one: what is laid into lanes is read again, and the other way round. Over the width w.
 use mathlib.Core.Path.{◌≡◌, refl, sym, ap, ap₂, ◌∙◌}
 use mathlib.Core.List.{List}
-use Prim.Native.Nat.{ℕ, zero, suc, ◌+◌, ◌-◌, ◌*◌, ◌/◌, ◌%◌, ◌^◌, ◌≤◌, ◌<◌}
+use Prim.Native.Nat.{ℕ, zero, suc, ◌+◌, ◌*◌, ◌/◌, ◌%◌, ◌^◌, ◌≤◌, ◌<◌}
 use native.Mathlib.Nat.{not-suc-le-zero, mul_assoc, mul_comm, mul-suc, mul-le-mul_left, zero-lt-suc, mod-eq_of_lt, mod-lt, div-add-mod, div-lt_iff_lt-mul, div-div-eq-div-mul, mod-one}
 use native.Mathlib.Omega.{arith}
 use lib.Arith.{mod-mul}

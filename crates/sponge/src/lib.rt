@@ -1,5 +1,6 @@
 // The sponge over Keccak-f[1600]: blocks of bytes go in, bytes come out; and the hashes of FIPS 202.
 #![tactic(auto)]
+
 ghost use Rattle.std.specs.Prelude.{◌≡◌, [], ◌∷◌, ◌++◌, ◌+◌, ◌*◌, ◌/◌, ◌%◌, ◌^◌, ◌<◌, ◌≤◌, length, take};
 ghost use Rattle.keccak.specs.Rounds.{f1600};
 ghost use Rattle.sponge.specs.Bytes.{lane_of, mixed, bytes};

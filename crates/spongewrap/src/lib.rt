@@ -1,6 +1,7 @@
 // SpongeWrap sessions (the mode of that name in "Duplexing the sponge"; document 01, "SpongeWrap"): a key opens one, and pairs of a header and a body are sealed and opened in turn.
 // Every call answers a number, 0 or the refusal's, and a session: the advanced one, or the one that it took.
 #![tactic(auto)]
+
 pub mod orders; // orders.rt: the limits, and the tests of each call in their order
 
 ghost use Rattle.std.specs.Prelude.{◌≡◌, ◌++◌, ◌+◌, ◌<◌, ◌≤◌, length, drop};

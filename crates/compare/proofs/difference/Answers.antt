@@ -1,6 +1,5 @@
 -- What is gathered is 0 just where the bytes passed are the same.
 use borrow.Author.Rules.{rules}
-use Prim.Native.Nat.{◌-◌}
 use Rattle.compare.proofs.Same.{differs_none, differs_more, differs_all}
 use Rattle.compare.proofs.difference.Goals as goal
 

@@ -1,6 +1,5 @@
 -- `Ran` says which pieces are absorbed where the loop stands; what is left then is the last piece.
 use borrow.Author.Rules.{rules}
-use Prim.Native.Nat.{◌-◌}
 use Rattle.sponge.proofs.Turns.{ran_none, ran_more}
 use Rattle.duplex.proofs.Strings.{absorbed_last}
 use Rattle.duplex.proofs.absorbed.Goals as goal

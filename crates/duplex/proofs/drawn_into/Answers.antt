@@ -1,6 +1,5 @@
 -- `Squeezed` says what is written where the loop stands, over any step from state to state: here the blank duplexing.
 use borrow.Author.Rules.{rules}
-use Prim.Native.Nat.{◌-◌}
 use Rattle.sponge.proofs.Turns.{wrote_none}
 use Rattle.sponge.proofs.Squeeze.{given-length, squeezed_more, squeezed_last, squeezed_state}
 use Rattle.duplex.specs.Duplex.{drawn, state_after}

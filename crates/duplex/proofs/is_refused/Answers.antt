@@ -1,5 +1,4 @@
 -- Each test in turn gives the part of the definition that it names.
-use borrow.Author.Rules.{rules}
 use Rattle.std.proofs.lemmas.Grind.{common_steps}
 use Rattle.std.proofs.Common.{arith}
 use Rattle.duplex.specs.Object.{duplex_refused}

@@ -1,7 +1,6 @@
 -- The loop's invariant: the first i bytes are those of the piece xored with the state's.
 use borrow.Author.Rules.{rules}
 use mathlib.Core.Path.{refl}
-use Prim.Native.Nat.{◌-◌}
 use Rattle.sponge.specs.Table.{table}
 use Rattle.sponge.proofs.Table.{turn, done}
 use Rattle.duplex.specs.Strings.{xored}

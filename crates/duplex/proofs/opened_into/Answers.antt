@@ -1,7 +1,6 @@
 -- `Wrote` says what is absorbed and written where the loop stands; what is left then is the last piece.
 use borrow.Author.Rules.{rules}
 use mathlib.Core.Path.{refl, ◌∙◌}
-use Prim.Native.Nat.{◌-◌}
 use Rattle.keccak.specs.Rounds.{f1600}
 use Rattle.sponge.proofs.Turns.{ran_last, wrote_none, wrote_more, wrote_last}
 use Rattle.duplex.proofs.Seal.{mask-length}

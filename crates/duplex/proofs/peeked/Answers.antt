@@ -1,7 +1,6 @@
 -- `Ran` says what is absorbed where the loop stands; what is left then is the last piece.
 use borrow.Author.Rules.{rules}
 use mathlib.Core.Path.{◌∙◌}
-use Prim.Native.Nat.{◌-◌}
 use Rattle.keccak.specs.Rounds.{f1600}
 use Rattle.sponge.proofs.Turns.{ran_none, ran_more, ran_last}
 use Rattle.duplex.proofs.Open.{taken_unmasked, opened_turns}

@@ -1,6 +1,5 @@
 -- `Wrote` says what is absorbed and written where the loop stands; what is left then is the last piece.
 use borrow.Author.Rules.{rules}
-use Prim.Native.Nat.{◌-◌}
 use Rattle.sponge.proofs.Turns.{wrote_none, wrote_more, wrote_last}
 use Rattle.duplex.proofs.Strings.{absorbed_last}
 use Rattle.duplex.proofs.Seal.{mask-length, sealed_written}

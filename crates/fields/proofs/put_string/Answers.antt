@@ -1,5 +1,4 @@
 -- The loop's invariant: the first i bytes of the string are stored.
-use Prim.Native.Nat.{◌-◌}
 use Rattle.fields.proofs.Stores.{store_more, store_done}
 use borrow.Author.Rules.{rules}
 use Rattle.fields.proofs.put_string.Goals as goal

@@ -1,7 +1,6 @@
 -- `Ran` says which whole blocks are absorbed where the loop stands; what is left then is shorter than a block.
 use borrow.Author.Rules.{rules}
 use mathlib.Core.Path.{◌∙◌}
-use Prim.Native.Nat.{◌-◌}
 use Rattle.keccak.specs.Rounds.{f1600}
 use Rattle.sponge.specs.Sponge.{absorb_block}
 use Rattle.sponge.specs.Padding.{padded}

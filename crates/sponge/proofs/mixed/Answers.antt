@@ -1,6 +1,6 @@
 -- The loop's invariant: the block's first j lanes are mixed in.
 use borrow.Author.Rules.{rules}
-use Prim.Native.Nat.{◌*◌, ◌-◌}
+use Prim.Native.Nat.{◌*◌}
 use native.Mathlib.Omega.{arith}
 use Rattle.sponge.proofs.Taken.{mixed_none, mixed_more, mixed_all}
 use Rattle.sponge.proofs.mixed.Goals as goal

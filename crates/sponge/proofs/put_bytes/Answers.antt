@@ -1,7 +1,6 @@
 -- The loop's invariant: the first i bytes are the state's.
 use borrow.Author.Rules.{rules}
 use mathlib.Core.Path.{refl, ◌∙◌}
-use Prim.Native.Nat.{◌-◌}
 use Rattle.sponge.specs.Table.{table}
 use Rattle.sponge.proofs.Table.{turn, done, table-get_or}
 use Rattle.sponge.proofs.put_bytes.Goals as goal

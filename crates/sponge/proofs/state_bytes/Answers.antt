@@ -1,7 +1,7 @@
 -- The loop's invariant: the first 8 j bytes are those of the state; a turn stores the eight of lane j.
 use borrow.Author.Rules.{rules}
 use mathlib.Core.Path.{◌≡◌, refl}
-use Prim.Native.Nat.{ℕ, ◌<◌, ◌-◌, ◌+◌, ◌*◌, ◌/◌, ◌%◌, ◌^◌}
+use Prim.Native.Nat.{ℕ, ◌<◌, ◌+◌, ◌*◌, ◌/◌, ◌%◌, ◌^◌}
 use native.Mathlib.Omega.{arith}
 use lib.ListN.{get_or}
 use Rattle.sponge.specs.Table.{table}

@@ -1,7 +1,7 @@
 -- The loop's invariant: the first 8 j bytes are those of the state; a turn stores the eight of lane j.
 use mathlib.Core.Path.{◌≡◌}
 use mathlib.Core.List.{◌++◌}
-use Prim.Native.Nat.{◌≤◌, ◌-◌, ◌+◌, ◌*◌}
+use Prim.Native.Nat.{◌≤◌, ◌-◌, ◌*◌}
 use lib.ListN.{length, drop}
 use Rattle.sponge.specs.Table.{table}
 use Rattle.sponge.specs.Bytes.{byte_of}

@@ -1,5 +1,4 @@
 -- The walk from the first entry is the walk from each place that the loop comes to.
-use Prim.Native.Nat.{◌-◌}
 use mathlib.Core.Path.{refl, sym, ◌∙◌}
 use native.Mathlib.Omega.{arith}
 use borrow.Author.Rules.{rules}

@@ -1,5 +1,4 @@
 -- The rows in their order; a label that is not refused is short, so that its sum cannot wrap.
-use Prim.Native.Nat.{◌≤◌}
 use mathlib.Core.Path.{sym, ◌∙◌}
 use borrow.Author.Rules.{rules}
 use Rattle.refusal.proofs.Tests.{inside}

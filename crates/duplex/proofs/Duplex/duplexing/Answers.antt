@@ -1,9 +1,6 @@
 -- The tests are the definition's own, and what they leave is what a duplexing asks for.
-use mathlib.Core.Path.{◌≡◌, sym, ◌∙◌}
-use mathlib.Core.Bool.{false}
+use mathlib.Core.Path.{sym, ◌∙◌}
 use native.Mathlib.Nat.{le_trans}
-use lib.ListN.{length}
-use Rattle.duplex.specs.Object.{duplex_refused}
 use Rattle.duplex.proofs.Object.{duplex_passes, bit_small, refusing, doing}
 use Rattle.duplex.proofs.Duplex.duplexing.Goals as goal
 

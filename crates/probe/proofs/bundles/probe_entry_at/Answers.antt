@@ -1,11 +1,11 @@
 -- A buffer of another length is refused; else each case of an entry answers its own, and a whole one fills the buffer.
 use Prim.Native.Nat.{ℕ}
-use mathlib.Core.Path.{◌≡◌, refl, sym, ap, ◌∙◌}
+use mathlib.Core.Path.{◌≡◌, refl, ap, ◌∙◌}
 use mathlib.Core.List.{List, [], ◌∷◌}
 use lib.ListN.{length}
 use Rattle.bundle.specs.Format.{version1, entry_at}
 use Rattle.bundle.specs.declared.Entry.{Entry}
-use Rattle.bundle.specs.declared.Entry.TheVariants.{Whole, Short, Large, Past}
+use Rattle.bundle.specs.declared.Entry.TheVariants.{Whole}
 use Rattle.image.specs.Calls.{Seen, seen, sized}
 use Rattle.image.proofs.Image.{stored_at, stored}
 use Rattle.probe.specs.Bundles.{of_entry}
