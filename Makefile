@@ -9,7 +9,7 @@ VERSION = $(shell sed -n 's/^.define FEEFLEDOWN_VERSION "\(.*\)"/\1/p' include/f
 STRICT = -Wall -Wextra -Werror -pedantic
 INSTALLED = -Itarget/c/installed/include -Ltarget/c/installed/lib -lfeefledown
 SANITIZED = -g -fsanitize=address,undefined -fno-sanitize-recover=all
-.PHONY: demo test lib install bench soak compare probe desk
+.PHONY: demo test lib install bench soak compare probe desk FORCE
 
 # The front desk's day, and the same bundle as the lister sees it. What the programs stand on is proved first, a crate at a time, lowest
 # first; what is proved already is not proved again.
@@ -21,9 +21,11 @@ demo:
 	@left=$(words $(NEEDED)); for each in $(NEEDED); do \
 	    left=$$((left - 1)); \
 	    printf '  %-12s' $$each; \
-	    rt check $$each > target/demo/log 2>&1 || { echo FAILED; tail -n 40 target/demo/log; exit 1; }; \
-	    echo "$$(sed -n "s/^rt: $$each \(proved.*\)/\1/p" target/demo/log), $$left left"; \
+	    start=$$(date +%s); \
+	    (cd crates/$$each && rt check) > target/demo/log 2>&1 || { echo FAILED; tail -n 40 target/demo/log; exit 1; }; \
+	    echo "proved ($$(($$(date +%s) - start)) s), $$left left"; \
 	done
+	@$(MAKE) --no-print-directory -s target/bin/frontdesk target/bin/lister
 	@echo
 	@cd target/demo && ../bin/frontdesk
 	@echo
@@ -33,14 +35,24 @@ demo:
 test:
 	bash .ci/run
 
-# The exports for tests and benchmarks: target/staticlib/libprobe.a.
-probe:
-	rt staticlib probe
+# The archive of a crate, target/staticlib/libNAME.a, and a program, target/bin/NAME: the crate is proved, and rt leaves them in its out/.
+# A program is run where it is built, on no input; the front desk leaves its bundle there.
+target/staticlib/lib%.a: FORCE
+	cd crates/$* && rt lib
+	install -D -m 644 crates/$*/out/lib$*.a $@
+
+target/bin/%: FORCE
+	@mkdir -p target/log
+	cd crates/$* && rt run < /dev/null > ../../target/log/$* 2>&1 || { tail -n 40 ../../target/log/$*; exit 1; }
+	rm -f crates/$*/bundle
+	install -D crates/$*/out/$* $@
+
+# The exports for tests and benchmarks.
+probe: target/staticlib/libprobe.a
 
 # What a C or Rust program links, in dist/, where no other target removes it: the archive, the header, and a pkg-config file that
 # finds them from where it stands itself.
-lib:
-	rt staticlib desk
+lib: target/staticlib/libdesk.a
 	install -D -m 644 include/feefledown.h $(DIST)/include/feefledown.h
 	install -D -m 644 target/staticlib/libdesk.a $(ARCHIVE)
 	mkdir -p $(DIST)/lib/pkgconfig
@@ -74,8 +86,7 @@ desk: lib
 	done
 
 # Both archives and the lister beside the reference. All of the Rust side is built, and the compiler's advice is taken.
-compare: probe desk
-	rt check lister
+compare: probe desk target/bin/lister
 	cd rust && $(CARGO) clippy $(RELEASE) --all-targets -- -D warnings
 	cd rust && $(CARGO) build $(RELEASE) --all-targets
 	cd rust && $(CARGO) test $(RELEASE)

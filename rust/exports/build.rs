@@ -1,5 +1,5 @@
 //! Links both archives from the folder that FEEFLEDOWN_STATICLIB names, else from
-//! target/staticlib, where the toolchain writes them.
+//! target/staticlib, where the Makefile leaves them.
 
 use std::env;
 use std::path::{Path, PathBuf};

@@ -41,7 +41,7 @@ fn printed(input: &[u8]) -> String {
     let program = Path::new(env!("CARGO_MANIFEST_DIR")).join("../../target/bin/lister");
     assert!(
         program.exists(),
-        "{} is missing: build it by `rt check lister`",
+        "{} is missing: build it by `make target/bin/lister`",
         program.display()
     );
     let mut lister = Command::new(program)
