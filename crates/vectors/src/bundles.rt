@@ -7,6 +7,7 @@ use crate::entries::Made;
 use crate::lines::Unread;
 use crate::tally::Tally;
 use crate::{entries, lines, named};
+use std::io::Read;
 
 // The header of a line, and how many bytes it has; or, where the line has another field, as many as before.
 fn header_after(line: &[u8], header: &mut [u8], before: usize) -> usize
@@ -104,7 +105,7 @@ struct Turn {
 
 // The next line, if there is one.
 fn turned(
-    fd: i32,
+    file: &mut impl Read,
     unread: Unread,
     before: Reading,
     buffer: &mut [u8],
@@ -115,7 +116,7 @@ fn turned(
     requires { Part unread.start unread.end buffer.old × (before.header ≤ length header.old) × Tallied before.tally 65535 }
     ensures { Part result.unread.start result.unread.end buffer.new × (result.reading.header ≤ length header.new) × Tallied result.reading.tally (before.tally.run + 1) }
 {
-    let line = lines::next(fd, buffer, unread);
+    let line = lines::next(file, buffer, unread);
     let rest = line.rest;
     if !line.is_there {
         return Turn {
@@ -136,7 +137,7 @@ fn turned(
 
 // Runs every bundle of a file of fewer than 65,536 lines, each made in `bytes`.
 pub fn run(
-    fd: i32,
+    file: &mut impl Read,
     buffer: &mut [u8],
     header: &mut [u8],
     text: &mut [u8],
@@ -146,7 +147,7 @@ pub fn run(
     let mut reading = unread_file();
     let mut turns: u64 = 0;
     while turns < 65535 {
-        let turn = turned(fd, unread, reading, buffer, header, text, bytes);
+        let turn = turned(file, unread, reading, buffer, header, text, bytes);
         unread = turn.unread;
         reading = turn.reading;
         if !turn.more {

@@ -9,9 +9,10 @@ use crate::hashes::Hash;
 use crate::lines::Unread;
 use crate::tally::Tally;
 use crate::{hashes, lines, named};
+use std::io::Read;
 
 // The lengths of a file's outputs in bits: the least, the most, and that of the case.
-#[derive(Drop)]
+#[derive(Clone, Copy)]
 struct Lengths {
     least: usize,
     most: usize,
@@ -19,7 +20,7 @@ struct Lengths {
 }
 
 // A link of the chain: one output, at the front of 256 bytes of zeros; how long it is, and how long the next one will be.
-#[derive(Drop)]
+#[derive(Clone, Copy)]
 struct Link {
     output: [u8; 256],
     length: usize,
@@ -161,7 +162,7 @@ fn agrees(link: Link, lengths: Lengths, line: &[u8]) -> bool {
         return false;
     }
     let output = link.output;
-    check::same(&output, &expected)
+    compare::is_same(&output, &expected)
 }
 
 // The tally after a line, which may end a case.
@@ -176,7 +177,7 @@ fn judged(tally: Tally, link: Link, lengths: Lengths, line: &[u8]) -> Tally
 }
 
 // Runs every case of a file of fewer than 65,536 lines.
-pub fn run(hash: Hash, fd: i32, buffer: &mut [u8]) -> Tally {
+pub fn run(hash: Hash, file: &mut impl Read, buffer: &mut [u8]) -> Tally {
     let mut unread = Unread { start: 0, end: 0 };
     let mut lengths = Lengths {
         least: 0,
@@ -187,7 +188,7 @@ pub fn run(hash: Hash, fd: i32, buffer: &mut [u8]) -> Tally {
     let mut tally = Tally::none();
     let mut turns: u64 = 0;
     while turns < 65536 {
-        let line = lines::next(fd, buffer, unread);
+        let line = lines::next(file, buffer, unread);
         if !line.is_there {
             return tally;
         }

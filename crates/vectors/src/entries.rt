@@ -55,7 +55,7 @@ fn followed(
     let answer = bundle::open_entry(before, bytes, place, out);
     let opened = answer.number;
     let reader = answer.session;
-    let same = check::same(&out[..], body);
+    let same = compare::is_same(&out[..], body);
     Made {
         agrees: made.agrees && number == 0 && opened == 0 && same,
         writer,
@@ -105,5 +105,5 @@ pub fn is_due(made: Made, bytes: &[u8], due: &[u8]) -> bool {
     }
     let writer = made.writer;
     let counted = entries(due) == writer.pairs as usize;
-    made.agrees && counted && check::same(&bytes[0..n], due)
+    made.agrees && counted && compare::is_same(&bytes[0..n], due)
 }

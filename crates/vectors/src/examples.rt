@@ -5,6 +5,7 @@ ghost use Rattle.spongewrap.specs.Sessions.{opens};
 
 use crate::{named, tally};
 use spongewrap::Session;
+use std::io;
 
 // SHA3-256 of 135 bytes 0x41 as OpenSSL and Python give it, spelled as in NIST's files.
 fn known_digest() -> [u8; 32] {
@@ -26,7 +27,7 @@ fn ends_in_0x86() -> bool {
     let mut digest = [0u8; 32];
     sponge::put_bytes(state, &mut digest);
     let known = known_digest();
-    check::same(&digest, &known) && check::same(&sponge::sha3_256(&message), &known)
+    compare::is_same(&digest, &known) && compare::is_same(&sponge::sha3_256(&message), &known)
 }
 
 // What an open with a key of n bytes answers.
@@ -48,13 +49,15 @@ fn keys_have_limits() -> bool {
 }
 
 // Every example, a line each.
-pub fn print_all() {
+pub fn print_all(rt: &impl Print) -> io::Result<()> {
     tally::print_example(
+        rt,
         b"SHA3-256 of 135 bytes: last block byte 135 is 0x86",
         ends_in_0x86(),
-    );
+    )?;
     tally::print_example(
+        rt,
         b"Key of 15, 16, 256, 257 bytes: 2, open, open, 2   ",
         keys_have_limits(),
-    );
+    )
 }

@@ -3,7 +3,7 @@ ghost use Rattle.std.specs.Prelude.{◌≡◌, ◌≤◌, take};
 ghost use Rattle.vectors.specs.Chains.{carried, hashed, widened};
 
 // Which function.
-#[derive(Drop)]
+#[derive(Clone, Copy)]
 pub enum Hash {
     Sha3_256,
     Shake128,
@@ -15,7 +15,7 @@ fn widened(digest: [u8; 32]) -> [u8; 256]
     ensures { result ≡ widened 32 digest }
 {
     let mut out = [0u8; 256];
-    bytes::copy(&digest, &mut out);
+    out[0..32].copy_from_slice(&digest);
     out
 }
 

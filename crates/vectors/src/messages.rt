@@ -7,9 +7,10 @@ use crate::hashes::Hash;
 use crate::lines::Unread;
 use crate::tally::Tally;
 use crate::{hashes, lines, named};
+use std::io::Read;
 
 // A case as far as it is read: the lengths that the file states, in bits, and the bytes of the message.
-#[derive(Drop)]
+#[derive(Clone, Copy)]
 struct Case {
     input: usize,
     output: usize,
@@ -58,7 +59,7 @@ fn agrees(case: Case, hash: Hash, line: &[u8], message: &[u8]) -> bool
     }
     let end = case.input / 8;
     let out = hashes::hashed(hash, &message[0..end], n);
-    check::same(&out, &expected)
+    compare::is_same(&out, &expected)
 }
 
 // The tally after a line, which may end a case.
@@ -74,7 +75,7 @@ fn judged(tally: Tally, case: Case, hash: Hash, line: &[u8], message: &[u8]) -> 
 }
 
 // Runs every case of a file of fewer than 65,536 lines.
-pub fn run(hash: Hash, fd: i32, buffer: &mut [u8], message: &mut [u8]) -> Tally
+pub fn run(hash: Hash, file: &mut impl Read, buffer: &mut [u8], message: &mut [u8]) -> Tally
     requires { length message.old ≤ 65536 }
 {
     let mut unread = Unread { start: 0, end: 0 };
@@ -86,7 +87,7 @@ pub fn run(hash: Hash, fd: i32, buffer: &mut [u8], message: &mut [u8]) -> Tally
     let mut tally = Tally::none();
     let mut turns: u64 = 0;
     while turns < 65536 {
-        let line = lines::next(fd, buffer, unread);
+        let line = lines::next(file, buffer, unread);
         if !line.is_there {
             return tally;
         }

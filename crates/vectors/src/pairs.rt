@@ -61,7 +61,7 @@ fn sealed(s: Session, header: &[u8], body: &[u8], due: &[u8], out: &mut [u8]) ->
     let answer = spongewrap::wrap(s, header, body, out);
     let number = answer.number;
     let session = answer.session;
-    let same = check::same(&out[..], due);
+    let same = compare::is_same(&out[..], due);
     Course {
         agrees: number == 0 && same,
         session,
@@ -79,7 +79,7 @@ fn opens(
 ) -> bool {
     let answer = spongewrap::unwrap(s, header, cipher, tag, out);
     let number = answer.number;
-    number == 0 && check::same(&out[..], body)
+    number == 0 && compare::is_same(&out[..], body)
 }
 
 // The course after a pair, which its session seals and the same session opens. No pair of the file has more than 1,024 bytes.

@@ -10,6 +10,7 @@ use crate::pairs::{Course, Pair};
 use crate::tally::Tally;
 use crate::{lines, named, pairs};
 use spongewrap::Session;
+use std::io::Read;
 
 // What the file states of a session: its settings, and the pairs and calls that it comes to.
 #[derive(Drop)]
@@ -92,7 +93,7 @@ fn stands_at(s: Session, line: &[u8]) -> bool {
     let mut due = [0u8; 200];
     sponge::put_bytes(lanes, &mut state);
     let n = named::text_after(line, b"State =", &mut due, 0);
-    n == 200 && check::same(&state, &due)
+    n == 200 && compare::is_same(&state, &due)
 }
 
 // Whether a session has come to what the file states, and to the state of the line.
@@ -187,7 +188,7 @@ struct Turn {
 
 // The next line, if there is one.
 fn turned(
-    fd: i32,
+    file: &mut impl Read,
     unread: Unread,
     before: Reading,
     buffer: &mut [u8],
@@ -198,7 +199,7 @@ fn turned(
     requires { Part unread.start unread.end buffer.old × Within before.pair header.old body.old due.old × Tallied before.tally 65535 }
     ensures { Part result.unread.start result.unread.end buffer.new × Within result.reading.pair header.new body.new due.new × Tallied result.reading.tally (before.tally.run + 1) }
 {
-    let line = lines::next(fd, buffer, unread);
+    let line = lines::next(file, buffer, unread);
     let rest = line.rest;
     if !line.is_there {
         return Turn {
@@ -219,7 +220,7 @@ fn turned(
 
 // Runs every session of a file of fewer than 65,536 lines.
 pub fn run(
-    fd: i32,
+    file: &mut impl Read,
     buffer: &mut [u8],
     header: &mut [u8],
     body: &mut [u8],
@@ -229,7 +230,7 @@ pub fn run(
     let mut reading = unread_file();
     let mut turns: u64 = 0;
     while turns < 65535 {
-        let turn = turned(fd, unread, reading, buffer, header, body, due);
+        let turn = turned(file, unread, reading, buffer, header, body, due);
         unread = turn.unread;
         reading = turn.reading;
         if !turn.more {

@@ -2,10 +2,10 @@
 ghost use Rattle.std.specs.Prelude.{◌≡◌, false, ◌+◌, ◌≤◌, ◌<◌};
 ghost use Rattle.vectors.specs.Bounds.{differing, more};
 
-use libc::STDOUT_FILENO;
+use std::io;
 
 // How many cases were run, how many agreed, and which was the first that did not, counted from 0 as NIST's COUNT is.
-#[derive(Drop)]
+#[derive(Clone, Copy)]
 pub struct Tally {
     pub run: u64,
     pub agreed: u64,
@@ -55,57 +55,52 @@ impl Tally {
 }
 
 // Writes a text to standard output.
-fn print(text: &[u8]) {
-    io::write_all(STDOUT_FILENO, text);
+fn print(rt: &impl Print, text: &[u8]) -> io::Result<()> {
+    rt.write_all(text)
 }
 
 // A file's name in a column of 23, the longest.
-fn print_name(text: &[u8]) {
-    print(text);
+fn print_name(rt: &impl Print, text: &[u8]) -> io::Result<()> {
+    print(rt, text)?;
     let blanks = [b' '; 23];
     let n = text.len();
     if n <= 23 {
-        print(&blanks[n..]);
+        print(rt, &blanks[n..])?;
     }
+    Ok(())
 }
 
 // A number in a column of 7.
-fn print_number(n: u64) {
-    let mut text = [0u8; 20];
-    let k = io::decimal(n, &mut text);
-    let blanks = [b' '; 7];
-    if k <= 7 {
-        print(&blanks[k..]);
-    }
-    print(&text[..k]);
+fn print_number(rt: &impl Print, n: u64) -> io::Result<()> {
+    print!(rt; "{n:>7}")
 }
 
 // The line of a file.
-pub fn print_tally(name: &[u8], tally: Tally) {
-    print_name(name);
-    print_number(tally.run);
-    print(b" cases");
-    print_number(tally.agreed);
-    print(b" agree");
+pub fn print_tally(rt: &impl Print, name: &[u8], tally: Tally) -> io::Result<()> {
+    print_name(rt, name)?;
+    print_number(rt, tally.run)?;
+    print(rt, b" cases")?;
+    print_number(rt, tally.agreed)?;
+    print(rt, b" agree")?;
     if tally.agreed < tally.run {
-        print(b"   first differs: case ");
-        io::print_decimal(STDOUT_FILENO, tally.first);
+        print(rt, b"   first differs: case ")?;
+        rt.print(tally.first)?;
     }
-    print(b"\n");
+    print(rt, b"\n")
 }
 
 // The line of a file that is not there.
-pub fn print_missing(name: &[u8]) {
-    print_name(name);
-    print(b"   cannot be opened\n");
+pub fn print_missing(rt: &impl Print, name: &[u8]) -> io::Result<()> {
+    print_name(rt, name)?;
+    print(rt, b"   cannot be opened\n")
 }
 
 // The line of a worked example.
-pub fn print_example(text: &[u8], agrees: bool) {
-    print(text);
+pub fn print_example(rt: &impl Print, text: &[u8], agrees: bool) -> io::Result<()> {
+    print(rt, text)?;
     if agrees {
-        print(b"   agrees\n");
+        print(rt, b"   agrees\n")
     } else {
-        print(b"   differs\n");
+        print(rt, b"   differs\n")
     }
 }

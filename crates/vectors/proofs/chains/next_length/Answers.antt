@@ -1,0 +1,12 @@
+-- The two bytes are the last of the output.
+use mathlib.Core.Path.{ap, ◌∙◌}
+use Prim.Native.Nat.{ℕ, ◌+◌, ◌-◌, ◌%◌}
+use Rattle.vectors.specs.Chains.{chosen}
+use borrow.Author.Rules.{rules}
+use Rattle.vectors.proofs.chains.next_length.Goals as goal
+
+pub returns : goal.returns
+unfolding chosen
+returns c =
+    let a = c.args in
+    (c.within.ensures.0 ∙ ap (λ (x : ℕ). a.least + x % (a.most - a.least + 1)) c.two_bytes.ensures, search rules)
