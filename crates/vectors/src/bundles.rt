@@ -52,7 +52,7 @@ fn judged(tally: Tally, made: Made, line: &[u8], text: &mut [u8], bytes: &[u8]) 
 }
 
 // A file as far as it is read: how many bytes the last header has, its last bundle, and the tally of those before.
-#[derive(Drop)]
+#[derive(Clone, Copy)]
 struct Reading {
     header: usize,
     made: Made,
@@ -96,7 +96,7 @@ fn read(
 }
 
 // A turn of the reading: whether there was a line, what is unread after it, and the file after it.
-#[derive(Drop)]
+#[derive(Clone, Copy)]
 struct Turn {
     more: bool,
     unread: Unread,

@@ -4,7 +4,7 @@ use spongewrap::Session;
 
 // A bundle as far as it has come: the sessions that write and read it, where its next entry will stand, and whether everything
 // agreed so far.
-#[derive(Drop)]
+#[derive(Clone, Copy)]
 pub struct Made {
     pub agrees: bool,
     pub writer: Session,

@@ -13,7 +13,7 @@ pub struct Unread {
 }
 
 // Where a line stands in the buffer, without the newline that ends it (or the return and newline), and what is still unread behind it.
-#[derive(Drop)]
+#[derive(Clone, Copy)]
 pub struct Line {
     pub is_there: bool,
     pub start: usize,

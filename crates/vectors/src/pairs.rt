@@ -6,7 +6,7 @@ use crate::named;
 use spongewrap::Session;
 
 // How many bytes of a pair are read: of its header, its body, its ciphertext, and its ciphertext and tag.
-#[derive(Drop)]
+#[derive(Clone, Copy)]
 pub struct Pair {
     pub header: usize,
     pub body: usize,
@@ -15,7 +15,7 @@ pub struct Pair {
 }
 
 // A session as far as it has come, and whether everything agreed so far.
-#[derive(Drop)]
+#[derive(Clone, Copy)]
 pub struct Course {
     pub agrees: bool,
     pub session: Session,

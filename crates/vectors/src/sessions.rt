@@ -13,7 +13,7 @@ use spongewrap::Session;
 use std::io::Read;
 
 // What the file states of a session: its settings, and the pairs and calls that it comes to.
-#[derive(Drop)]
+#[derive(Clone, Copy)]
 struct Stated {
     rate: usize,
     tag: usize,
@@ -115,7 +115,7 @@ fn judged(tally: Tally, course: Course, stated: Stated, line: &[u8]) -> Tally
 }
 
 // A file as far as it is read: what is stated, the pair and the course of its last session, and the tally of those before.
-#[derive(Drop)]
+#[derive(Clone, Copy)]
 struct Reading {
     stated: Stated,
     pair: Pair,
@@ -179,7 +179,7 @@ fn read(before: Reading, line: &[u8], header: &mut [u8], body: &mut [u8], due: &
 }
 
 // A turn of the reading: whether there was a line, what is unread after it, and the file after it.
-#[derive(Drop)]
+#[derive(Clone, Copy)]
 struct Turn {
     more: bool,
     unread: Unread,

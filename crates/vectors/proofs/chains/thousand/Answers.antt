@@ -1,6 +1,5 @@
 -- A turn is one link more.
 use mathlib.Core.Path.{refl}
-use Prim.Native.Nat.{◌-◌}
 use Rattle.vectors.specs.Chains.{links}
 use Rattle.vectors.proofs.Links.{links_more, links_all}
 use borrow.Author.Rules.{rules}

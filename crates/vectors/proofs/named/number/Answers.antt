@@ -1,5 +1,4 @@
 -- A number below a million takes one digit more.
-use Prim.Native.Nat.{◌-◌}
 use native.Mathlib.Omega.{arith}
 use Rattle.vectors.proofs.Spelled.{read_none, read_more, read_stop, read_all}
 use borrow.Author.Rules.{rules}
