@@ -67,6 +67,7 @@ pub fn of_own(rate: bool, tag: bool, full: bool) -> u8
 }
 
 // The rows of a pair: `own` is what the session's own rows came to, and `short` says that the output lacks room.
+#[tactic(auto, using(refusal::proofs::Rows::rows))]
 pub fn of_pair(own: u8, header: usize, body: usize, short: bool) -> u8
     ensures { result ≡ by own own (first (part_rows header body ++ (short, 6) ∷ [])) }
 {
