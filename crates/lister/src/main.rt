@@ -1,44 +1,55 @@
 // Lists the bundle that stands on standard input: its entries, and the permutation calls that opening them takes.
 // Everything that matters is in the library; this reads, calls and prints.
 #![tactic(auto)]
-ghost use Rattle.std.specs.Prelude.{◌+◌, ◌≤◌};
+
+ghost use Rattle.std.specs.Prelude.{◌≤◌, length, take};
+ghost use Rattle.std.specs.Io.KnownBytes.{Consumes};
 
 use bundle::{Entry, Surveyed};
-use libc::{STDIN_FILENO, STDOUT_FILENO};
+use std::io::Read;
 
-fn print(text: &[u8], n: u64) {
-    io::write_all(STDOUT_FILENO, text);
-    io::print_decimal(STDOUT_FILENO, n);
+// The most bytes that are listed.
+const MOST: usize = 65_536;
+
+// A write that fails is passed over.
+fn write(rt: &impl Print, text: &[u8]) {
+    let _ = rt.write_all(text);
 }
 
-fn print_refusal(number: u8, place: usize) {
-    print(b"refused ", number as u64);
-    print(b" at ", place as u64);
-    io::write_all(STDOUT_FILENO, b"\n");
+fn print(rt: &impl Print, text: &[u8], n: u64) {
+    write(rt, text);
+    let _ = print!(rt; "{n}");
 }
 
-fn print_first(bytes: usize, entries: usize) {
-    print(b"version 1 bytes ", bytes as u64);
-    print(b" entries ", entries as u64);
-    io::write_all(STDOUT_FILENO, b"\n");
+fn print_refusal(rt: &impl Print, number: u8, place: usize) {
+    print(rt, b"refused ", number as u64);
+    print(rt, b" at ", place as u64);
+    write(rt, b"\n");
 }
 
-fn print_entry(k: usize, place: usize, header: usize, body: usize, calls: u64) {
-    print(b"", k as u64);
-    print(b" at ", place as u64);
-    print(b" header ", header as u64);
-    print(b" body ", body as u64);
-    print(b" calls ", calls);
-    io::write_all(STDOUT_FILENO, b"\n");
+fn print_first(rt: &impl Print, bytes: usize, entries: usize) {
+    print(rt, b"version 1 bytes ", bytes as u64);
+    print(rt, b" entries ", entries as u64);
+    write(rt, b"\n");
 }
 
-fn print_last(calls: u64) {
-    print(b"calls ", calls);
-    io::write_all(STDOUT_FILENO, b"\n");
+fn print_entry(rt: &impl Print, k: usize, place: usize, header: usize, body: usize, calls: u64) {
+    print(rt, b"", k as u64);
+    print(rt, b" at ", place as u64);
+    print(rt, b" header ", header as u64);
+    print(rt, b" body ", body as u64);
+    print(rt, b" calls ", calls);
+    write(rt, b"\n");
 }
 
-fn print_entries(bytes: &[u8], entries: usize) {
-    print_first(bytes.len(), entries);
+fn print_last(rt: &impl Print, calls: u64) {
+    print(rt, b"calls ", calls);
+    write(rt, b"\n");
+}
+
+#[tactic(auto, using(bundle::proofs::Entries::whole_at))]
+fn print_entries(rt: &impl Print, bytes: &[u8], entries: usize) {
+    print_first(rt, bytes.len(), entries);
     let mut place = bundle::FIRST;
     let mut k = 0;
     let mut sum = 0;
@@ -48,30 +59,50 @@ fn print_entries(bytes: &[u8], entries: usize) {
             return;
         };
         let calls = bundle::calls_of(header, body);
-        print_entry(k, place, header, body, calls);
+        print_entry(rt, k, place, header, body, calls);
         sum += calls;
         place = next;
         k += 1;
     }
-    print_last(sum);
+    print_last(rt, sum);
 }
 
-fn list(bytes: &[u8]) {
+fn list(rt: &impl Print, bytes: &[u8]) {
     let answer = bundle::survey(bytes);
     match answer {
-        Surveyed::Entries(entries) => print_entries(bytes, entries),
-        Surveyed::Refused { number, place } => print_refusal(number, place),
+        Surveyed::Entries(entries) => print_entries(rt, bytes, entries),
+        Surveyed::Refused { number, place } => print_refusal(rt, number, place),
     }
 }
 
-fn main() {
-    let mut bytes = io::large_buffer();
-    let n = io::read_full(STDIN_FILENO, &mut bytes);
+// Reads until the buffer is full, the input ends or a read fails. Answers how many bytes were read, which stand at the start of the
+// buffer as the input gave them.
+fn read_full<R: Read>(input: &mut R, buffer: &mut [u8]) -> usize
+    ensures within { result ≤ length buffer.new }
+    ensures bytes { Consumes (R.remaining input.old) (R.remaining input.new) (take result buffer.new) }
+{
+    let mut done = 0;
+    while done < buffer.len() {
+        let Ok(n) = input.read(&mut buffer[done..]) else {
+            break;
+        };
+        if n == 0 {
+            break;
+        }
+        done += n;
+    }
+    done
+}
+
+fn main(rt: HostRuntime) {
+    let mut bytes = [0u8; MOST];
+    let mut input = rt.stdin();
+    let n = read_full(&mut input, &mut bytes);
     let mut more = [0u8; 1];
-    let over = io::read_full(STDIN_FILENO, &mut more);
+    let over = read_full(&mut input, &mut more);
     if over != 0 {
-        print_refusal(refusal::NO_ROOM, bytes.len());
+        print_refusal(&rt, refusal::NO_ROOM, bytes.len());
         return;
     }
-    list(&bytes[..n]);
+    list(&rt, &bytes[..n]);
 }
