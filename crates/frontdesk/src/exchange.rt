@@ -15,7 +15,7 @@ struct Sides {
 }
 
 // Opens what the other side sealed, a ciphertext of n bytes and its tag, and prints the pair's line.
-fn open(s: Session, header: &[u8], sealed: &[u8], n: usize) -> Session
+fn open(rt: &impl Print, s: Session, header: &[u8], sealed: &[u8], n: usize) -> Session
     requires { n + 16 ≤ length sealed.now }
     ensures { result ≡ opens_pair s header.now n sealed.now }
 {
@@ -23,13 +23,13 @@ fn open(s: Session, header: &[u8], sealed: &[u8], n: usize) -> Session
     let end = n + bundle::TAG;
     let done = running::unwrap_lent(s, header, &sealed[..n], &sealed[n..end], &mut out);
     let session = done.session;
-    lines::print_pair(s.pairs as u64, header, n, session.calls);
-    lines::print_outcome(done.number, &out, n);
+    lines::print_pair(rt, s.pairs as u64, header, n, session.calls);
+    lines::print_outcome(rt, done.number, &out, n);
     session
 }
 
 // Passes a pair from one side to the other.
-fn pass(from: Session, to: Session, header: &[u8], body: &[u8]) -> Sides
+fn pass(rt: &impl Print, from: Session, to: Session, header: &[u8], body: &[u8]) -> Sides
     requires { length body.now ≤ 240 }
     ensures { (result.sealer ≡ (wraps desk from header.now body.now dots).answer.session) × (result.opener ≡ opens_pair to header.now (length body.now) (sealed_pair from header.now body.now)) }
 {
@@ -37,9 +37,9 @@ fn pass(from: Session, to: Session, header: &[u8], body: &[u8]) -> Sides
     let n = body.len();
     let done = running::wrap_lent(from, header, body, &mut sealed);
     let session = done.session;
-    lines::print_pair(from.pairs as u64, header, n, session.calls);
-    lines::print_sealed(done.number);
-    let opener = open(to, header, &sealed, n);
+    lines::print_pair(rt, from.pairs as u64, header, n, session.calls);
+    lines::print_sealed(rt, done.number);
+    let opener = open(rt, to, header, &sealed, n);
     Sides {
         sealer: session,
         opener,
@@ -47,11 +47,12 @@ fn pass(from: Session, to: Session, header: &[u8], body: &[u8]) -> Sides
 }
 
 // The desk answers the office, and the office answers the desk.
-pub fn by_turns(desk: Session, office: Session) {
-    lines::print_receipt();
-    let sides = pass(desk, office, b"receipt", b"five entries, each opened");
-    lines::print_answer();
+pub fn by_turns(rt: &impl Print, desk: Session, office: Session) {
+    lines::print_receipt(rt);
+    let sides = pass(rt, desk, office, b"receipt", b"five entries, each opened");
+    lines::print_answer(rt);
     pass(
+        rt,
         sides.opener,
         sides.sealer,
         b"next bundle",

@@ -18,29 +18,29 @@ pub fn open_session(key: &[u8]) -> Session
 }
 
 // Prints the line of an entry that was sealed at a place.
-fn show(answer: Reply, entry: u32, place: usize, header: &[u8], body: usize) {
+fn show(rt: &impl Print, answer: Reply, entry: u32, place: usize, header: &[u8], body: usize) {
     let session = answer.session;
-    lines::print_entry(entry as u64, place, header, body, session.calls);
-    lines::print_sealed(answer.number);
+    lines::print_entry(rt, entry as u64, place, header, body, session.calls);
+    lines::print_sealed(rt, answer.number);
 }
 
 // Starts a bundle by a new session, and prints the line of its label.
-pub fn start(key: &[u8], label: &[u8], bytes: &mut [u8]) -> Reply
+pub fn start(rt: &impl Print, key: &[u8], label: &[u8], bytes: &mut [u8]) -> Reply
     ensures { seen result bytes.new ≡ starts version1 (bundle_session key.now) label.now bytes.old }
 {
-    lines::print_sealing(key.len());
+    lines::print_sealing(rt, key.len());
     let answer = bundle::start(open_session(key), label, bytes);
-    show(answer, 0, bundle::FIRST, label, 0);
+    show(rt, answer, 0, bundle::FIRST, label, 0);
     answer
 }
 
 // Adds an entry, and prints its line.
-pub fn add(s: Session, header: &[u8], body: &[u8], bytes: &mut [u8]) -> Reply
+pub fn add(rt: &impl Print, s: Session, header: &[u8], body: &[u8], bytes: &mut [u8]) -> Reply
     ensures { seen result bytes.new ≡ adds version1 s header.now body.now bytes.old }
 {
     let place = bundle::end_of(&bytes[..]);
     let answer = bundle::add(s, header, body, bytes);
-    show(answer, s.pairs, place, header, body.len());
+    show(rt, answer, s.pairs, place, header, body.len());
     answer
 }
 
