@@ -26,7 +26,7 @@ unfolding bytes_of
 length-bytes_of zero n = refl
 length-bytes_of (suc k) n = omega (arith, length-append (bytes_of k (n / 256)) (n % 256 ∷ []), length-bytes_of k (n / 256))
 
-bytes_join : (m n x : ℕ) → bytes_of (m + n) x ≡ bytes_of m (x / 256 ^ n) ++ bytes_of n x
+pub bytes_join : (m n x : ℕ) → bytes_of (m + n) x ≡ bytes_of m (x / 256 ^ n) ++ bytes_of n x
 unfolding bytes_of
 bytes_join m zero x = rw (add-zero m, div-one x) (sym (append-nil (bytes_of m x)))
 bytes_join m (suc n) x =

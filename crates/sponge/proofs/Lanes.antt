@@ -28,7 +28,7 @@ sum_first f (suc k) = omega (arith, sum_first f k)
 
 -- ---- digits to the base 256
 
-place_suc : (m : ℕ) → 2 ^ (8 * suc m) ≡ 2 ^ (8 * m) * 256
+pub place_suc : (m : ℕ) → 2 ^ (8 * suc m) ≡ 2 ^ (8 * m) * 256
 place_suc m = let e : 8 * suc m ≡ 8 * m + 8 = omega arith in rw e (pow-add 2 (8 * m) 8)
 
 -- x is the sum of its digits

@@ -8,7 +8,7 @@ use lib.ListN.{length, get_or, replicate, length-append, length-replicate, get_o
 use lib.Seq.{get_or_at, get_or-append-add}
 use Rattle.sponge.specs.Padding.{tail, padded}
 
-length-tail : (s m : ℕ) → length (tail s m) ≡ suc m
+pub length-tail : (s m : ℕ) → length (tail s m) ≡ suc m
 unfolding tail
 length-tail s zero = refl
 length-tail s (suc m) = omega (arith, length-append (replicate {A = ℕ} m 0) (128 ∷ []), length-replicate {A = ℕ} m 0)

@@ -23,7 +23,7 @@ use Rattle.sponge.proofs.Lanes.{sum_ext, low_digit, lane_front}
 -- ---- lane after lane
 
 -- x xored into lane l
-mixed_lane : (w : ℕ) (a b c : List ℕ) (l x : ℕ) → l < 25 → ((j : ℕ) → j < l → lane_of w b j ≡ lane_of w c j) → ((j : ℕ) → l < j → lane_of w b j ≡ lane_of w c j)
+pub mixed_lane : (w : ℕ) (a b c : List ℕ) (l x : ℕ) → l < 25 → ((j : ℕ) → j < l → lane_of w b j ≡ lane_of w c j) → ((j : ℕ) → l < j → lane_of w b j ≡ lane_of w c j)
     → bit_xor (lane_of w b l) x ≡ lane_of w c l → set (mixed w a b) l (bit_xor (get_or (mixed w a b) l 0) x) ≡ mixed w a c
 unfolding mixed
 mixed_lane w a b c l x h f g e =
@@ -59,7 +59,7 @@ mixed_all w a b r n e h = rw (take_all n b h) at e
 -- ---- the lane where a piece ends
 
 -- bytes as a number, the lowest first
-pub number : List ℕ → ℕ
+unfoldable pub number : List ℕ → ℕ
 number [] = 0
 number (b ∷ l) = b + 256 * number l
 

@@ -149,7 +149,7 @@ pub fn put_bytes(a: [u64; 25], out: &mut [u8])
 }
 
 // The whole slice filled from a state: `rate` bytes, then a permutation, and so on.
-fn squeeze_into(a: [u64; 25], rate: usize, out: &mut [u8])
+pub fn squeeze_into(a: [u64; 25], rate: usize, out: &mut [u8])
     requires { (0 < rate) × (rate ≤ 200) }
     ensures { out.new ≡ squeeze 64 f1600 rate a (length out.old) }
 {
@@ -165,7 +165,8 @@ fn squeeze_into(a: [u64; 25], rate: usize, out: &mut [u8])
     put_bytes(st, &mut out[at..]);
 }
 
-fn hash_into(message: &[u8], suffix: u8, rate: usize, out: &mut [u8])
+// The hash of a message at a rate, by its suffix byte. It fills the lent slice, which may be empty.
+pub fn hash_into(message: &[u8], suffix: u8, rate: usize, out: &mut [u8])
     requires { (0 < rate) × (rate ≤ 200) × (rate % 8 ≡ 0) × (suffix < 128) }
     ensures { out.new ≡ hash 64 f1600 rate suffix message.now (length out.old) }
 {
