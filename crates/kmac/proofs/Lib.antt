@@ -1,0 +1,4 @@
+pub mod Encoding
+pub mod Settle
+pub mod Theorems
+pub mod Outcomes

@@ -1,0 +1,4 @@
+pub mod Encodings
+pub mod Functions
+pub mod Refusals
+pub mod Answers

@@ -1,0 +1,185 @@
+// cSHAKE and KMAC (NIST SP 800-185): hashes by a function name and a customisation, and message codes by a key.
+// A call answers 0, and the lent output is filled; or a refusal's number, and nothing is written.
+#![tactic(auto)]
+
+mod encodings; // encodings.rt: integers and strings, and what is padded to a block
+mod orders; // orders.rt: the limits, and the tests of each call in their order
+
+ghost use Rattle.std.specs.Prelude.{◌≡◌, ◌≤◌, length};
+ghost use Rattle.keccak.specs.Rounds.{f1600};
+ghost use Rattle.sponge.specs.Sponge.{squeeze};
+ghost use Rattle.compare.specs.Same.{same};
+ghost use Rattle.absorber.specs.Absorbing.{ended, Ready};
+ghost use Rattle.kmac.specs.Functions.{kmac_name, cshake, new_x, kmac};
+ghost use Rattle.kmac.specs.Refusals.{most_size, most_string};
+ghost use Rattle.kmac.specs.Answers.{seen, cshakes, kmacs, kmacxofs, verifies};
+
+use absorber::Absorber;
+
+// What verification answers: 0 or a refusal's number, and whether the code is right.
+#[derive(Clone, Copy)]
+pub struct Verdict {
+    pub number: u8,
+    pub is_right: bool,
+}
+
+// ---- at any rate
+
+// The output of a cSHAKE that has a name or a customisation, from all that it absorbs.
+fn squeeze_named(c: Absorber, rate: usize, out: &mut [u8])
+    requires { Ready 64 rate c.offset }
+    ensures { out.new ≡ squeeze 64 f1600 rate (ended 64 f1600 rate c 0x04) (length out.old) }
+{
+    sponge::squeeze_into(absorber::ended(c, 0x04, rate), rate, out);
+}
+
+// cSHAKE.
+fn cshake_at(name: &[u8], customisation: &[u8], message: &[u8], rate: usize, out: &mut [u8]) -> u8
+    requires { Ready 64 rate 0 }
+    ensures { seen result out.new ≡ cshakes 64 f1600 rate name.now customisation.now message.now out.old }
+{
+    let number = orders::of_cshake(name.len(), customisation.len());
+    if number != 0 {
+        return number;
+    }
+    if name.len() + customisation.len() == 0 {
+        sponge::hash_into(message, 0x1F, rate, out);
+        return 0;
+    }
+    let head = encodings::names_padded(name, customisation, rate);
+    let whole = absorber::absorbed_string(head, message, rate);
+    squeeze_named(whole, rate, out);
+    0
+}
+
+// KMAC with `bits` for the length of its output: 0 for an output of any length.
+fn keyed_into(
+    key: &[u8],
+    customisation: &[u8],
+    message: &[u8],
+    bits: u64,
+    rate: usize,
+    out: &mut [u8],
+)
+    requires { Ready 64 rate 0 × (length key.now ≤ most_size) × (length customisation.now ≤ most_string) }
+    ensures { out.new ≡ cshake 64 f1600 rate (new_x rate key.now message.now bits) (length out.old) kmac_name customisation.now }
+{
+    let head = encodings::names_padded(b"KMAC", customisation, rate);
+    let keyed = encodings::key_padded(head, key, rate);
+    let most = absorber::absorbed_string(keyed, message, rate);
+    let whole = encodings::right_encoded(most, bits, rate);
+    squeeze_named(whole, rate, out);
+}
+
+// KMAC: a code of the output's length.
+fn kmac_at(key: &[u8], customisation: &[u8], message: &[u8], rate: usize, out: &mut [u8]) -> u8
+    requires { Ready 64 rate 0 }
+    ensures { seen result out.new ≡ kmacs 64 f1600 rate key.now customisation.now message.now out.old }
+{
+    let number = orders::of_kmac(key.len(), out.len(), customisation.len());
+    if number != 0 {
+        return number;
+    }
+    let bits = 8 * (out.len() as u64);
+    keyed_into(key, customisation, message, bits, rate, out);
+    0
+}
+
+// KMACXOF: an output of any length.
+fn kmacxof_at(key: &[u8], customisation: &[u8], message: &[u8], rate: usize, out: &mut [u8]) -> u8
+    requires { Ready 64 rate 0 }
+    ensures { seen result out.new ≡ kmacxofs 64 f1600 rate key.now customisation.now message.now out.old }
+{
+    let number = orders::of_kmacxof(key.len(), customisation.len());
+    if number != 0 {
+        return number;
+    }
+    keyed_into(key, customisation, message, 0, rate, out);
+    0
+}
+
+// Whether a code is the one that KMAC gives at its length. Both are looked at to their last byte.
+fn is_code(key: &[u8], customisation: &[u8], message: &[u8], rate: usize, code: &[u8]) -> bool
+    requires { Ready 64 rate 0 × (length key.now ≤ most_size) × (length customisation.now ≤ most_string) × (length code.now ≤ most_size) }
+    ensures { result ≡ same code.now (kmac 64 f1600 rate key.now message.now (length code.now) customisation.now) }
+{
+    let n = code.len();
+    let bits = 8 * (n as u64);
+    let mut due = [0u8; 256];
+    keyed_into(key, customisation, message, bits, rate, &mut due[..n]);
+    compare::is_same(code, &due[..n])
+}
+
+// KMAC's verification.
+fn verify_at(key: &[u8], customisation: &[u8], message: &[u8], rate: usize, code: &[u8]) -> Verdict
+    requires { Ready 64 rate 0 }
+    ensures { result ≡ verifies 64 f1600 rate key.now customisation.now message.now code.now }
+{
+    let number = orders::of_kmac(key.len(), code.len(), customisation.len());
+    if number != 0 {
+        return Verdict {
+            number,
+            is_right: false,
+        };
+    }
+    let is_right = is_code(key, customisation, message, rate, code);
+    Verdict { number, is_right }
+}
+
+// ---- the standard's functions, at their rates
+
+// cSHAKE128 (section 3.3). It fills the lent slice, which may be empty; with name and customisation both empty it is SHAKE128.
+pub fn cshake128(name: &[u8], customisation: &[u8], message: &[u8], out: &mut [u8]) -> u8
+    ensures { seen result out.new ≡ cshakes 64 f1600 168 name.now customisation.now message.now out.old }
+{
+    cshake_at(name, customisation, message, 168, out)
+}
+
+// cSHAKE256 (section 3.3); with name and customisation both empty it is SHAKE256.
+pub fn cshake256(name: &[u8], customisation: &[u8], message: &[u8], out: &mut [u8]) -> u8
+    ensures { seen result out.new ≡ cshakes 64 f1600 136 name.now customisation.now message.now out.old }
+{
+    cshake_at(name, customisation, message, 136, out)
+}
+
+// KMAC128 (section 4.3): a code of the lent slice's length, 16 to 256 bytes, by a key of 16 to 256 bytes.
+pub fn kmac128(key: &[u8], customisation: &[u8], message: &[u8], out: &mut [u8]) -> u8
+    ensures { seen result out.new ≡ kmacs 64 f1600 168 key.now customisation.now message.now out.old }
+{
+    kmac_at(key, customisation, message, 168, out)
+}
+
+// KMAC256 (section 4.3).
+pub fn kmac256(key: &[u8], customisation: &[u8], message: &[u8], out: &mut [u8]) -> u8
+    ensures { seen result out.new ≡ kmacs 64 f1600 136 key.now customisation.now message.now out.old }
+{
+    kmac_at(key, customisation, message, 136, out)
+}
+
+// KMACXOF128 (section 4.3.1). It fills the lent slice, which may be empty.
+pub fn kmacxof128(key: &[u8], customisation: &[u8], message: &[u8], out: &mut [u8]) -> u8
+    ensures { seen result out.new ≡ kmacxofs 64 f1600 168 key.now customisation.now message.now out.old }
+{
+    kmacxof_at(key, customisation, message, 168, out)
+}
+
+// KMACXOF256 (section 4.3.1).
+pub fn kmacxof256(key: &[u8], customisation: &[u8], message: &[u8], out: &mut [u8]) -> u8
+    ensures { seen result out.new ≡ kmacxofs 64 f1600 136 key.now customisation.now message.now out.old }
+{
+    kmacxof_at(key, customisation, message, 136, out)
+}
+
+// Whether a code is KMAC128's of the key, the customisation and the message, at its length.
+pub fn kmac128_verify(key: &[u8], customisation: &[u8], message: &[u8], code: &[u8]) -> Verdict
+    ensures { result ≡ verifies 64 f1600 168 key.now customisation.now message.now code.now }
+{
+    verify_at(key, customisation, message, 168, code)
+}
+
+// Whether a code is KMAC256's.
+pub fn kmac256_verify(key: &[u8], customisation: &[u8], message: &[u8], code: &[u8]) -> Verdict
+    ensures { result ≡ verifies 64 f1600 136 key.now customisation.now message.now code.now }
+{
+    verify_at(key, customisation, message, 136, code)
+}
