@@ -8,7 +8,7 @@ use crate::{DOT, ROOM, lines};
 use spongewrap::Session;
 
 // The two running sessions, that of the side which sealed last and that of the side which opened.
-#[derive(Drop)]
+#[derive(Clone, Copy)]
 struct Sides {
     pub sealer: Session,
     pub opener: Session,

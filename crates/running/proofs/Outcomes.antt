@@ -19,7 +19,8 @@ pub unwrap_lent_outcome : (κs : Lfts 4) (a x y s t : _) → unwrap.Post κs a x
     → (x ≡ y) × (s.1.1.1.1.0.now ≡ t.1.1.1.1.0.now)
 unwrap_lent_outcome κs a x y s t e h = parts x y _ _ (e ∙ sym h)
 
--- ---- in place. A contract over a reference to a struct has no `Post` that a theorem can name, so its equation stands here in full:
+-- ---- in place. When these were written, a contract over a reference to a struct had no `Post` that a theorem could name, so its equation
+-- stands here in full:
 -- the answer n with the session t that is left behind the reference, and the output x.
 
 pub wrap_in_place_outcome : (s : Session) (h b o : List ℕ) (n m : ℕ) (t u : Session) (x y : List ℕ)
