@@ -1,24 +1,55 @@
-// What is refused, and by which number. Nobody else spells a number out; a bundle's own, from 9 on, are the format's.
+// What is refused, and by which number. Nobody else spells a number out.
 #![tactic(auto)]
 
 ghost use Rattle.std.specs.Prelude.{◌≡◌, ◌+◌};
 ghost use Rattle.refusal.specs.Rows.{outside, short};
+ghost use Rattle.refusal.specs.Numbers.{number_of, told};
 
-pub const BAD_RATE: u8 = 1;
+use std::error::Error;
+use std::fmt;
 
-pub const BAD_KEY: u8 = 2;
+// Why a call is refused (document 01, "Refusal numbers"). The last three are a bundle's own.
+#[derive(Clone, Copy, Debug, PartialEq, Eq, Hash)]
+pub enum Refusal {
+    BadRate = 1,
+    BadKey = 2,
+    BadTagLength = 3,
+    LongHeader = 4,
+    LongBody = 5,
+    NoRoom = 6,
+    Full = 7,
+    WrongTag = 8,
+    Malformed = 9,
+    OtherVersion = 10,
+    NoLabel = 11,
+}
 
-pub const BAD_TAG_LENGTH: u8 = 3;
+impl From<Refusal> for u8 {
+    ghost from_gives = { λ refusal n. n ≡ number_of refusal };
 
-pub const LONG_HEADER: u8 = 4;
+    fn from(refusal: Refusal) -> u8 {
+        refusal as u8
+    }
+}
 
-pub const LONG_BODY: u8 = 5;
+// A refusal is told by its number.
+impl fmt::Display for Refusal {
+    fn fmt<W: fmt::Write>(&self, f: &mut fmt::Formatter<W>) -> fmt::Result {
+        write!(f, "{}", u8::from(*self))
+    }
+}
 
-pub const NO_ROOM: u8 = 6;
+impl Error for Refusal {}
 
-pub const FULL: u8 = 7;
-
-pub const WRONG_TAG: u8 = 8;
+// The number of an answer, for callers that take no enum: its refusal's, or 0 where it is accepted.
+pub fn number(answer: Result<(), Refusal>) -> u8
+    ensures { result ≡ told answer }
+{
+    match answer {
+        Ok(()) => 0,
+        Err(refusal) => u8::from(refusal),
+    }
+}
 
 // Whether a number is under the least or over the most that is taken.
 pub fn outside(least: usize, most: usize, n: usize) -> bool
