@@ -3,6 +3,7 @@
 
 ghost use Rattle.std.specs.Prelude.{◌≡◌, ◌+◌};
 ghost use Rattle.refusal.specs.Rows.{outside, short};
+ghost use Rattle.refusal.specs.Limits.{bad_size};
 ghost use Rattle.refusal.specs.Numbers.{number_of, told};
 
 use std::error::Error;
@@ -66,4 +67,16 @@ pub fn is_short(out: usize, first: usize, second: usize) -> bool
         return true;
     }
     out - first < second
+}
+
+// Keys, tags and codes have so many bytes at least and at most.
+const LEAST_SIZE: usize = 16;
+
+const MOST_SIZE: usize = 256;
+
+// Whether a key, a tag or a code would have too few or too many bytes.
+pub fn bad_size(n: usize) -> bool
+    ensures { result ≡ bad_size n }
+{
+    outside(LEAST_SIZE, MOST_SIZE, n)
 }

@@ -10,7 +10,8 @@ use Rattle.refusal.specs.Rows.{pick, first, by, short}
 use Rattle.refusal.proofs.Tests.{neither, inside}
 use Rattle.refusal.proofs.Rows.{kept, made, by_zero, Clear, all_clear, clear_first, clear_append, clear_parts, first-append}
 use Rattle.duplex.specs.Duplex.{Rate}
-use Rattle.spongewrap.specs.Refusals.{least_size, most_size, most_header, most_body, most_pairs, bad_rate, bad_size, open_rows, rows_of, part_rows, open_refusal, common_rows, wrap_refusal, ready_rows, unwrap_refusal, Fits}
+use Rattle.refusal.specs.Limits.{least_size, most_size, bad_size}
+use Rattle.spongewrap.specs.Refusals.{most_header, most_body, most_pairs, bad_rate, open_rows, rows_of, part_rows, open_refusal, common_rows, wrap_refusal, ready_rows, unwrap_refusal, Fits}
 use Rattle.spongewrap.specs.Kinds.{Rates, Kind}
 use Rattle.spongewrap.specs.declared.Session.{Session}
 

@@ -1,11 +1,12 @@
 -- Calls that are refused and accepted, as the definitions have them: each law's premises are what the code's steps ensure.
 use Prim.Native.Nat.{ℕ, ◌+◌}
 use native.Mathlib.Omega.{arith}
-use mathlib.Core.Path.{◌≡◌, sym, ◌∙◌}
+use mathlib.Core.Path.{◌≡◌, refl, sym, ◌∙◌}
 use mathlib.Core.List.{List, ◌++◌}
 use mathlib.Core.Bool.{Bool, true, false, not}
 use lib.ListN.{length, drop, length-append}
-use borrow.Author.Tests.{not-true, not-false}
+use Rattle.std.specs.Prelude.{Option, Some, None}
+use Rattle.std.specs.Bool.{then_some}
 use Rattle.refusal.specs.Rows.{pick, first, by}
 use Rattle.refusal.proofs.Rows.{kept}
 use Rattle.compare.specs.Same.{same}
@@ -20,6 +21,16 @@ use Rattle.spongewrap.specs.Sessions.{fresh, none, opens, advanced, next, sealin
 use Rattle.spongewrap.specs.Kinds.{Kind}
 use Rattle.spongewrap.specs.declared.Session.{Session}
 use Rattle.spongewrap.proofs.Passed.{wrap_fits, unwrap_fits, before_tag, at_tag}
+
+-- ---- what a test let through
+
+was_found : {A : Type 0} (t : Bool) (x l : A) → Some l ≡ then_some t x → (t ≡ true) × (l ≡ x)
+was_found true x l e = (refl, cc)
+was_found false x l e = cc
+
+not_found : {A : Type 0} (t : Bool) (x : A) → None ≡ then_some t x → t ≡ false
+not_found true x e = cc
+not_found false x e = refl
 
 -- ---- any call
 
@@ -95,22 +106,23 @@ module _ (K : Kind) where
         rw (← before_tag K s (length h) (length c) (length o) (foreign K s h c t) n e d)
         (sym (settled_refused n s (next K s h (recovered K s h c)) o (recovered K s h c) d))
 
-    -- a is the state that the header left
-    module _ (ready : first (ready_rows K s (length h) (length c) (length o)) ≡ 0) (a : List ℕ) (right : Bool) (p : a ≡ headed K.w K.f s.rate s.lanes h)
-        (k : right ≡ same t (drawn K.w K.f s.rate (absorbed K.w K.f s.rate a 1 0 (opened K.w K.f s.rate a c)) s.tag)) where
-      number : unwrap_refusal K s (length h) (length c) (length o) (foreign K s h c t) ≡ pick (not right) 8 0
+    -- a is the state that the header left, and `found` what the look at the tag came to
+    module _ (ready : first (ready_rows K s (length h) (length c) (length o)) ≡ 0) (a : List ℕ) (found : Option (List ℕ)) (p : a ≡ headed K.w K.f s.rate s.lanes h)
+        (k : found ≡ then_some (same t (drawn K.w K.f s.rate (absorbed K.w K.f s.rate a 1 0 (opened K.w K.f s.rate a c)) s.tag))
+        (state_after K.w K.f s.rate (absorbed K.w K.f s.rate a 1 0 (opened K.w K.f s.rate a c)) s.tag)) where
+      number : unwrap_refusal K s (length h) (length c) (length o) (foreign K s h c t)
+          ≡ pick (not (same t (drawn K.w K.f s.rate (absorbed K.w K.f s.rate a 1 0 (opened K.w K.f s.rate a c)) s.tag))) 8 0
       unfolding foreign tag_of tagged bodied recovered plaintext
-      number = rw (k, p) (at_tag K s (length h) (length c) (length o) (foreign K s h c t) ready)
+      number = rw p (at_tag K s (length h) (length c) (length o) (foreign K s h c t) ready)
 
-      pub unwraps_other : not right ≡ true → seen (record { number = 8; session = s }) o ≡ unwraps K s h c t o
+      pub unwraps_other : found ≡ None → seen (record { number = 8; session = s }) o ≡ unwraps K s h c t o
       unfolding unwraps pick settled by
-      unwraps_other f = rw (number, not-true right f)
+      unwraps_other f = rw (number, not_found _ _ (sym f ∙ k))
 
-      pub unwraps_taken : not right ≡ false → (l : List ℕ) (s' : Session) (o' : List ℕ)
-          → l ≡ state_after K.w K.f s.rate (absorbed K.w K.f s.rate a 1 0 (opened K.w K.f s.rate a c)) s.tag
-          → s' ≡ advanced s l (length h) (length c) → o' ≡ opened K.w K.f s.rate a c ++ drop (length c) o
-          → seen (record { number = 0; session = s' }) o' ≡ unwraps K s h c t o
+      pub unwraps_taken : (l : List ℕ) → found ≡ Some l → (s' : Session) (o' : List ℕ) → s' ≡ advanced s l (length h) (length c)
+          → o' ≡ opened K.w K.f s.rate a c ++ drop (length c) o → seen (record { number = 0; session = s' }) o' ≡ unwraps K s h c t o
       unfolding unwraps pick settled by next left bodied recovered plaintext
-      unwraps_taken f l s' o' g u x =
+      unwraps_taken l f s' o' u x =
           let m = length-recovered s h c (unwrap_fits K s (length h) (length c) (length o) ready).0.rate in
-          rw (number, not-false right f, x, u, g, p, m)
+          let q = was_found _ _ l (sym f ∙ k) in
+          rw (number, q.0, x, u, q.1, p, m)

@@ -1,17 +1,12 @@
 -- The refusal numbers, a clause each, and the order of each call's (document 01, "Refusal numbers").
 use Rattle.std.specs.Prelude.{ℕ, ◌+◌, ◌<◌, ◌≤◌, List, [], ◌∷◌, ◌++◌, Bool, true, not, ◌&&◌, ◌||◌, eqb, ltb, leb}
-use Rattle.refusal.specs.Rows.{first, outside, short}
+use Rattle.refusal.specs.Rows.{first, short}
+use Rattle.refusal.specs.Limits.{least_size, most_size, bad_size}
 use Rattle.duplex.specs.Duplex.{Rate}
 use Rattle.spongewrap.specs.Kinds.{Kind}
 use Rattle.spongewrap.specs.declared.Session.{Session}
 
 -- ---- the limits
-
-abbrev pub least_size : ℕ
-least_size = 16
-
-abbrev pub most_size : ℕ
-most_size = 256
 
 abbrev pub most_header : ℕ
 most_header = 65535
@@ -28,10 +23,6 @@ most_pairs = 65535
 abbrev pub bad_rate : List ℕ → ℕ → Bool
 bad_rate [] rate = true
 bad_rate (R ∷ Rs) rate = bad_rate Rs rate && not (eqb rate R)
-
--- 2 and 3: a key, or a tag, of under 16 or over 256 bytes
-abbrev pub bad_size : ℕ → Bool
-bad_size n = outside least_size most_size n
 
 -- 4: a header of over 65,535 bytes
 abbrev pub long_header : ℕ → Bool

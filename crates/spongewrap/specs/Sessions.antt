@@ -1,6 +1,7 @@
 -- Sessions: what each call answers and leaves, for every input (document 01, "SpongeWrap" and "Refusal numbers").
-use Rattle.std.specs.Prelude.{ℕ, ◌+◌, ◌-◌, List, ◌++◌, Bool, not, length, drop}
+use Rattle.std.specs.Prelude.{ℕ, ◌+◌, ◌-◌, List, ◌++◌, Bool, not, length, drop, Result, Ok, Err}
 use Rattle.refusal.specs.Rows.{by}
+use Rattle.refusal.specs.Numbers.{number_of}
 use Rattle.compare.specs.Same.{same}
 use Rattle.sponge.specs.Sponge.{zeros}
 use Rattle.duplex.specs.Strings.{blocks}
@@ -8,7 +9,7 @@ use Rattle.spongewrap.specs.SpongeWrap.{keyed, ciphertext, tagged, left, plainte
 use Rattle.spongewrap.specs.Refusals.{open_refusal, wrap_refusal, unwrap_refusal}
 use Rattle.spongewrap.specs.Kinds.{Kind}
 use Rattle.spongewrap.specs.declared.Session.{Session}
-use Rattle.spongewrap.specs.declared.Answer.{Answer}
+use Rattle.spongewrap.specs.declared.Refused.{Refused}
 
 -- the session of zeros, which a refused open gives
 abbrev pub none : Session
@@ -30,6 +31,16 @@ advanced s l header body =
       pairs = s.pairs + 1;
       calls = s.calls + cost s.rate s.tag header body;
     }
+
+-- what a call answers: a number, 0 or the refusal's, and a session
+pub record Answer : Type 0 where
+  pub number : ℕ
+  pub session : Session
+
+-- the answer that a result is
+abbrev pub answer_of : Result Session Refused → Answer
+answer_of (Ok s) = record { number = 0; session = s }
+answer_of (Err r) = record { number = number_of r.refusal; session = r.session }
 
 -- what is seen of a call: its answer, and the lent output as it is left
 pub record Seen : Type 0 where

@@ -1,19 +1,23 @@
 // SpongeWrap sessions (the mode of that name in "Duplexing the sponge"; document 01, "SpongeWrap"): a key opens one, and pairs of a header and a body are sealed and opened in turn.
-// Every call answers a number, 0 or the refusal's, and a session: the advanced one, or the one that it took.
+// Every call answers a session: the advanced one, or beside its refusal the one that it took.
 #![tactic(auto)]
 
 pub mod orders; // orders.rt: the limits, and the tests of each call in their order
 
 ghost use Rattle.std.specs.Prelude.{◌≡◌, ◌++◌, ◌+◌, ◌<◌, ◌≤◌, length, drop};
 ghost use Rattle.refusal.specs.Rows.{first};
+ghost use Rattle.std.specs.Bool.{then_some};
 ghost use Rattle.compare.specs.Same.{same};
 ghost use Rattle.keccak.specs.Rounds.{f1600};
 ghost use Rattle.duplex.specs.Duplex.{Rate, drawn, state_after};
 ghost use Rattle.duplex.specs.Strings.{blocks, absorbed, sealed, opened};
 ghost use Rattle.spongewrap.specs.SpongeWrap.{headed};
-ghost use Rattle.spongewrap.specs.Refusals.{most_size, most_header, most_body, most_pairs, ready_rows, Fits};
-ghost use Rattle.spongewrap.specs.Sessions.{none, opens, advanced, next, sealing, tag_of, wraps, unwraps, seen};
+ghost use Rattle.refusal.specs.Limits.{most_size};
+ghost use Rattle.spongewrap.specs.Refusals.{most_header, most_body, most_pairs, ready_rows, Fits};
+ghost use Rattle.spongewrap.specs.Sessions.{answer_of, none, fresh, opens, advanced, next, sealing, tag_of, wraps, unwraps, seen};
 ghost use Rattle.spongewrap.specs.Desk.{desk, default_rate, default_tag};
+
+use refusal::Refusal;
 
 // What a session is: the state, its settings, and how many pairs and permutation calls brought it here.
 #[derive(Clone, Copy)]
@@ -25,11 +29,20 @@ pub struct Session {
     pub calls: u64,
 }
 
-// What a call answers: 0 or a refusal's number, and a session.
+// What a refused call answers: why, and the session as it was handed in. A refused open has a session of zeros.
 #[derive(Clone, Copy)]
-pub struct Answer {
-    pub number: u8,
+pub struct Refused {
+    pub refusal: Refusal,
     pub session: Session,
+}
+
+// The refusal alone, for callers that keep the session themselves.
+impl From<Refused> for Refusal {
+    ghost from_gives = { λ refused refusal. refusal ≡ refused.refusal };
+
+    fn from(refused: Refused) -> Refusal {
+        refused.refusal
+    }
 }
 
 impl Session {
@@ -39,32 +52,45 @@ impl Session {
     pub const TAG: u16 = 16;
 
     // A session from a key, with the default settings.
-    pub fn open(key: &[u8]) -> Answer
-        ensures { result ≡ opens desk key.now default_rate default_tag }
+    pub fn open(key: &[u8]) -> Result<Session, Refused>
+        ensures { answer_of result ≡ opens desk key.now default_rate default_tag }
     {
         open(key, Session::RATE, Session::TAG)
+    }
+
+    // A refusal, with the session as it is.
+    fn refused(self, refusal: Refusal) -> Refused
+        ensures { result ≡ record { refusal = refusal; session = self } }
+    {
+        Refused {
+            refusal,
+            session: self,
+        }
     }
 }
 
 // A session from a key, a rate and a tag length (SpongeWrap's initialise). A refused open gives a session of zeros.
-pub fn open(key: &[u8], rate: u16, tag: u16) -> Answer
-    ensures { result ≡ opens desk key.now rate tag }
+pub fn open(key: &[u8], rate: u16, tag: u16) -> Result<Session, Refused>
+    ensures { answer_of result ≡ opens desk key.now rate tag }
 {
-    let number = orders::of_open(key.len(), rate, tag);
-    if number != 0 {
-        let session = no_session();
-        return Answer { number, session };
+    match orders::of_open(key.len(), rate, tag) {
+        Ok(()) => Ok(fresh(key, rate, tag)),
+        Err(refusal) => Err(no_session().refused(refusal)),
     }
-    let lanes = duplex::absorbed([0u64; 25], key, 1, 0, rate as usize);
-    let calls = block_count(key.len(), rate as usize);
-    let session = Session {
-        lanes,
+}
+
+// The session that an accepted open makes: the key's pieces are absorbed and counted.
+fn fresh(key: &[u8], rate: u16, tag: u16) -> Session
+    requires { Rate 64 rate }
+    ensures { result ≡ fresh desk rate tag key.now }
+{
+    Session {
+        lanes: duplex::absorbed([0u64; 25], key, 1, 0, rate as usize),
         rate,
         tag,
         pairs: 0,
-        calls,
-    };
-    Answer { number: 0, session }
+        calls: block_count(key.len(), rate as usize),
+    }
 }
 
 fn no_session() -> Session
@@ -140,72 +166,68 @@ fn seal_next(s: Session, header: &[u8], body: &[u8], out: &mut [u8]) -> Session
 }
 
 // Seals a pair (SpongeWrap's wrap): the ciphertext and then the tag go to the first bytes of `out`.
-pub fn wrap(s: Session, header: &[u8], body: &[u8], out: &mut [u8]) -> Answer
-    ensures { seen result out.new ≡ wraps desk s header.now body.now out.old }
+pub fn wrap(s: Session, header: &[u8], body: &[u8], out: &mut [u8]) -> Result<Session, Refused>
+    ensures { seen (answer_of result) out.new ≡ wraps desk s header.now body.now out.old }
 {
-    let number = orders::of_wrap(s, header.len(), body.len(), out.len());
-    if number != 0 {
-        return Answer { number, session: s };
+    match orders::of_wrap(s, header.len(), body.len(), out.len()) {
+        Ok(()) => Ok(seal_next(s, header, body, out)),
+        Err(refusal) => Err(s.refused(refusal)),
     }
-    let session = seal_next(s, header, body, out);
-    Answer { number: 0, session }
 }
 
-// A tag looked at: whether it is the right one, and the state after the right one.
-#[derive(Clone, Copy)]
-struct Checked {
-    pub right: bool,
-    pub lanes: [u64; 25],
-}
-
-// Whether `tag` is the tag of n bytes that the state `a` gives.
-fn check_tag(a: [u64; 25], tag: &[u8], n: usize, rate: usize) -> Checked
+// The state after the tag of n bytes that the state `a` gives; none where `tag` is another.
+fn check_tag(a: [u64; 25], tag: &[u8], n: usize, rate: usize) -> Option<[u64; 25]>
     requires { Rate 64 rate × (n ≤ most_size) }
-    ensures { (result.right ≡ same tag.now (drawn 64 f1600 rate a n)) × (result.lanes ≡ state_after 64 f1600 rate a n) }
+    ensures { result ≡ then_some (same tag.now (drawn 64 f1600 rate a n)) (state_after 64 f1600 rate a n) }
 {
     let mut due = [0u8; 256];
     let lanes = duplex::drawn_into(a, rate, &mut due[..n]);
-    let right = compare::is_same(tag, &due[..n]);
-    Checked { right, lanes }
+    compare::is_same(tag, &due[..n]).then_some(lanes)
 }
 
-// Whether `tag` is the tag of n bytes that a ciphertext has, from the state that the header left. Nothing is written.
-fn check_pair(a: [u64; 25], cipher: &[u8], tag: &[u8], n: usize, rate: usize) -> Checked
+// The same for the tag that a ciphertext has, from the state that the header left. Nothing is written.
+fn check_pair(a: [u64; 25], cipher: &[u8], tag: &[u8], n: usize, rate: usize) -> Option<[u64; 25]>
     requires { Rate 64 rate × (n ≤ most_size) }
-    ensures { (result.right ≡ same tag.now (drawn 64 f1600 rate (absorbed 64 f1600 rate a 1 0 (opened 64 f1600 rate a cipher.now)) n)) × (result.lanes ≡ state_after 64 f1600 rate (absorbed 64 f1600 rate a 1 0 (opened 64 f1600 rate a cipher.now)) n) }
+    ensures { result ≡ then_some (same tag.now (drawn 64 f1600 rate (absorbed 64 f1600 rate a 1 0 (opened 64 f1600 rate a cipher.now)) n)) (state_after 64 f1600 rate (absorbed 64 f1600 rate a 1 0 (opened 64 f1600 rate a cipher.now)) n) }
 {
     check_tag(duplex::peeked(a, cipher, rate), tag, n, rate)
 }
 
 // A pair that fits opened. The tag is checked before anything is written, so a wrong one releases nothing.
-fn open_pair(s: Session, header: &[u8], cipher: &[u8], tag: &[u8], out: &mut [u8]) -> Answer
+fn open_pair(
+    s: Session,
+    header: &[u8],
+    cipher: &[u8],
+    tag: &[u8],
+    out: &mut [u8],
+) -> Result<Session, Refused>
     requires { (first (ready_rows desk s (length header.now) (length cipher.now) (length out.old)) ≡ 0) × Fits desk s (length header.now) (length cipher.now) × (length cipher.now ≤ length out.old) }
-    ensures { seen result out.new ≡ unwraps desk s header.now cipher.now tag.now out.old }
+    ensures { seen (answer_of result) out.new ≡ unwraps desk s header.now cipher.now tag.now out.old }
 {
     let rate = s.rate as usize;
     let before = s.lanes;
     let head = headed(before, header, rate);
-    let checked = check_pair(head, cipher, tag, s.tag as usize, rate);
-    let right = checked.right;
-    let lanes = checked.lanes;
-    if !right {
-        return Answer {
-            number: refusal::WRONG_TAG,
-            session: s,
-        };
+    match check_pair(head, cipher, tag, s.tag as usize, rate) {
+        Some(lanes) => {
+            duplex::opened_into(head, cipher, rate, out);
+            Ok(advanced(s, lanes, header.len(), cipher.len()))
+        }
+        None => Err(s.refused(Refusal::WrongTag)),
     }
-    duplex::opened_into(head, cipher, rate, out);
-    let session = advanced(s, lanes, header.len(), cipher.len());
-    Answer { number: 0, session }
 }
 
 // Opens a pair (SpongeWrap's unwrap): the body goes to the first bytes of `out`, once the tag has been found right.
-pub fn unwrap(s: Session, header: &[u8], cipher: &[u8], tag: &[u8], out: &mut [u8]) -> Answer
-    ensures { seen result out.new ≡ unwraps desk s header.now cipher.now tag.now out.old }
+pub fn unwrap(
+    s: Session,
+    header: &[u8],
+    cipher: &[u8],
+    tag: &[u8],
+    out: &mut [u8],
+) -> Result<Session, Refused>
+    ensures { seen (answer_of result) out.new ≡ unwraps desk s header.now cipher.now tag.now out.old }
 {
-    let number = orders::of_unwrap(s, header.len(), cipher.len(), out.len());
-    if number != 0 {
-        return Answer { number, session: s };
+    match orders::of_unwrap(s, header.len(), cipher.len(), out.len()) {
+        Ok(()) => open_pair(s, header, cipher, tag, out),
+        Err(refusal) => Err(s.refused(refusal)),
     }
-    open_pair(s, header, cipher, tag, out)
 }

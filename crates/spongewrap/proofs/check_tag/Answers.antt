@@ -26,7 +26,6 @@ slice_bounds-is_same-end c =
 pub returns : goal.returns
 returns c =
     let a = c.args in
-    let drawn-into = c.drawn_into-lanes.ensures in (
-      c.is_same-right.ensures ∙ ap (same a.tag.now) (front_is 64 f1600 a.rate a.n a.a (replicate {A = ℕ} 256 0) _ (search rules) (search rules) drawn-into.1),
-      drawn-into.0 ∙ ap (state_after 64 f1600 a.rate a.a) (length-take-le a.n (replicate {A = ℕ} 256 0) (search rules)),
-    )
+    let e = c.is_same.ensures ∙ ap (same a.tag.now) (front_is 64 f1600 a.rate a.n a.a (replicate {A = ℕ} 256 0) _ (search rules) (search rules) c.drawn_into-lanes.ensures.1) in
+    let l = c.drawn_into-lanes.ensures.0 ∙ ap (state_after 64 f1600 a.rate a.a) (length-take-le a.n (replicate {A = ℕ} 256 0) (search rules)) in
+    c.then_some.ensures ∙ rw (e, l)
