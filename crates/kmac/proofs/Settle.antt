@@ -19,7 +19,8 @@ use Rattle.absorber.specs.Absorbing.{fresh, ended, Absorbed, Ready}
 use Rattle.absorber.proofs.Parts.{parts, hash_is}
 use Rattle.kmac.specs.Encodings.{right_encode, encode_string, bytepad}
 use Rattle.kmac.specs.Functions.{kmac_name, cshake, new_x}
-use Rattle.kmac.specs.Refusals.{least_size, most_size, most_string, cshake_rows, kmac_rows, kmacxof_rows}
+use Rattle.refusal.specs.Limits.{least_size, most_size}
+use Rattle.kmac.specs.Refusals.{most_string, cshake_rows, kmac_rows, kmacxof_rows}
 use Rattle.kmac.specs.Answers.{seen, settled, judged}
 
 -- ---- what may be relied on where no row refuses

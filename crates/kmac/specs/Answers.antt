@@ -1,8 +1,9 @@
 -- What is seen of each call, for every input.
-use Rattle.std.specs.Prelude.{ℕ, List, Bool, false, length}
+use Rattle.std.specs.Prelude.{ℕ, List, Bool, false, length, Result, Ok, Err}
 use Rattle.refusal.specs.Rows.{first, by}
 use Rattle.compare.specs.Same.{same}
-use Rattle.kmac.specs.declared.Verdict.{Verdict}
+use Rattle.refusal.specs.Numbers.{number_of}
+use Rattle.refusal.specs.declared.Refusal.{Refusal}
 use Rattle.kmac.specs.Functions.{cshake, kmac, kmacxof}
 use Rattle.kmac.specs.Refusals.{cshake_rows, kmac_rows, kmacxof_rows}
 
@@ -17,6 +18,16 @@ seen a o = record { answer = a; out = o }
 -- by the number n: a refusal keeps the output o; else it is filled with x
 unfoldable pub settled : ℕ → List ℕ → List ℕ → Seen
 settled n o x = seen n (by n o x)
+
+-- what verification answers: a number, and whether the code is right
+pub record Verdict : Type 0 where
+  pub number : ℕ
+  pub is_right : Bool
+
+-- the verdict that a result is
+abbrev pub verdict : Result Bool Refusal → Verdict
+verdict (Ok b) = record { number = 0; is_right = b }
+verdict (Err r) = record { number = number_of r; is_right = false }
 
 -- by the number n: yes only where nothing is refused
 unfoldable pub judged : ℕ → Bool → Verdict

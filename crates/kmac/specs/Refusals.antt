@@ -1,19 +1,9 @@
 -- What each call refuses, by the lengths that it is handed, in its order. The numbers are those of a key, a tag's length and a header.
 use Rattle.std.specs.Prelude.{ℕ, List, [], ◌∷◌, Bool, ltb}
-use Rattle.refusal.specs.Rows.{outside}
-
-abbrev pub least_size : ℕ
-least_size = 16
-
-abbrev pub most_size : ℕ
-most_size = 256
+use Rattle.refusal.specs.Limits.{bad_size}
 
 abbrev pub most_string : ℕ
 most_string = 65535
-
--- a key or a code of under 16 or over 256 bytes
-abbrev pub bad_size : ℕ → Bool
-bad_size n = outside least_size most_size n
 
 -- a name or a customisation of over 65,535 bytes
 abbrev pub long_string : ℕ → Bool

@@ -1,5 +1,5 @@
 // cSHAKE and KMAC (NIST SP 800-185): hashes by a function name and a customisation, and message codes by a key.
-// A call answers 0, and the lent output is filled; or a refusal's number, and nothing is written.
+// The lent output is filled; or a call is refused, and nothing is written.
 #![tactic(auto)]
 
 mod encodings; // encodings.rt: integers and strings, and what is padded to a block
@@ -11,17 +11,13 @@ ghost use Rattle.sponge.specs.Sponge.{squeeze};
 ghost use Rattle.compare.specs.Same.{same};
 ghost use Rattle.absorber.specs.Absorbing.{ended, Ready};
 ghost use Rattle.kmac.specs.Functions.{kmac_name, cshake, new_x, kmac};
-ghost use Rattle.kmac.specs.Refusals.{most_size, most_string};
-ghost use Rattle.kmac.specs.Answers.{seen, cshakes, kmacs, kmacxofs, verifies};
+ghost use Rattle.refusal.specs.Limits.{most_size};
+ghost use Rattle.refusal.specs.Numbers.{told};
+ghost use Rattle.kmac.specs.Refusals.{most_string};
+ghost use Rattle.kmac.specs.Answers.{seen, verdict, cshakes, kmacs, kmacxofs, verifies};
 
 use absorber::Absorber;
-
-// What verification answers: 0 or a refusal's number, and whether the code is right.
-#[derive(Clone, Copy)]
-pub struct Verdict {
-    pub number: u8,
-    pub is_right: bool,
-}
+use refusal::Refusal;
 
 // ---- at any rate
 
@@ -34,22 +30,25 @@ fn squeeze_named(c: Absorber, rate: usize, out: &mut [u8])
 }
 
 // cSHAKE.
-fn cshake_at(name: &[u8], customisation: &[u8], message: &[u8], rate: usize, out: &mut [u8]) -> u8
+fn cshake_at(
+    name: &[u8],
+    customisation: &[u8],
+    message: &[u8],
+    rate: usize,
+    out: &mut [u8],
+) -> Result<(), Refusal>
     requires { Ready 64 rate 0 }
-    ensures { seen result out.new ≡ cshakes 64 f1600 rate name.now customisation.now message.now out.old }
+    ensures { seen (told result) out.new ≡ cshakes 64 f1600 rate name.now customisation.now message.now out.old }
 {
-    let number = orders::of_cshake(name.len(), customisation.len());
-    if number != 0 {
-        return number;
-    }
+    orders::of_cshake(name.len(), customisation.len())?;
     if name.len() + customisation.len() == 0 {
         sponge::hash_into(message, 0x1F, rate, out);
-        return 0;
+        return Ok(());
     }
     let head = encodings::names_padded(name, customisation, rate);
     let whole = absorber::absorbed_string(head, message, rate);
     squeeze_named(whole, rate, out);
-    0
+    Ok(())
 }
 
 // KMAC with `bits` for the length of its output: 0 for an output of any length.
@@ -72,30 +71,36 @@ fn keyed_into(
 }
 
 // KMAC: a code of the output's length.
-fn kmac_at(key: &[u8], customisation: &[u8], message: &[u8], rate: usize, out: &mut [u8]) -> u8
+fn kmac_at(
+    key: &[u8],
+    customisation: &[u8],
+    message: &[u8],
+    rate: usize,
+    out: &mut [u8],
+) -> Result<(), Refusal>
     requires { Ready 64 rate 0 }
-    ensures { seen result out.new ≡ kmacs 64 f1600 rate key.now customisation.now message.now out.old }
+    ensures { seen (told result) out.new ≡ kmacs 64 f1600 rate key.now customisation.now message.now out.old }
 {
-    let number = orders::of_kmac(key.len(), out.len(), customisation.len());
-    if number != 0 {
-        return number;
-    }
+    orders::of_kmac(key.len(), out.len(), customisation.len())?;
     let bits = 8 * (out.len() as u64);
     keyed_into(key, customisation, message, bits, rate, out);
-    0
+    Ok(())
 }
 
 // KMACXOF: an output of any length.
-fn kmacxof_at(key: &[u8], customisation: &[u8], message: &[u8], rate: usize, out: &mut [u8]) -> u8
+fn kmacxof_at(
+    key: &[u8],
+    customisation: &[u8],
+    message: &[u8],
+    rate: usize,
+    out: &mut [u8],
+) -> Result<(), Refusal>
     requires { Ready 64 rate 0 }
-    ensures { seen result out.new ≡ kmacxofs 64 f1600 rate key.now customisation.now message.now out.old }
+    ensures { seen (told result) out.new ≡ kmacxofs 64 f1600 rate key.now customisation.now message.now out.old }
 {
-    let number = orders::of_kmacxof(key.len(), customisation.len());
-    if number != 0 {
-        return number;
-    }
+    orders::of_kmacxof(key.len(), customisation.len())?;
     keyed_into(key, customisation, message, 0, rate, out);
-    0
+    Ok(())
 }
 
 // Whether a code is the one that KMAC gives at its length. Both are looked at to their last byte.
@@ -111,75 +116,114 @@ fn is_code(key: &[u8], customisation: &[u8], message: &[u8], rate: usize, code: 
 }
 
 // KMAC's verification.
-fn verify_at(key: &[u8], customisation: &[u8], message: &[u8], rate: usize, code: &[u8]) -> Verdict
+fn verify_at(
+    key: &[u8],
+    customisation: &[u8],
+    message: &[u8],
+    rate: usize,
+    code: &[u8],
+) -> Result<bool, Refusal>
     requires { Ready 64 rate 0 }
-    ensures { result ≡ verifies 64 f1600 rate key.now customisation.now message.now code.now }
+    ensures { verdict result ≡ verifies 64 f1600 rate key.now customisation.now message.now code.now }
 {
-    let number = orders::of_kmac(key.len(), code.len(), customisation.len());
-    if number != 0 {
-        return Verdict {
-            number,
-            is_right: false,
-        };
-    }
-    let is_right = is_code(key, customisation, message, rate, code);
-    Verdict { number, is_right }
+    orders::of_kmac(key.len(), code.len(), customisation.len())?;
+    Ok(is_code(key, customisation, message, rate, code))
 }
 
 // ---- the standard's functions, at their rates
 
 // cSHAKE128 (section 3.3). It fills the lent slice, which may be empty; with name and customisation both empty it is SHAKE128.
-pub fn cshake128(name: &[u8], customisation: &[u8], message: &[u8], out: &mut [u8]) -> u8
-    ensures { seen result out.new ≡ cshakes 64 f1600 168 name.now customisation.now message.now out.old }
+pub fn cshake128(
+    name: &[u8],
+    customisation: &[u8],
+    message: &[u8],
+    out: &mut [u8],
+) -> Result<(), Refusal>
+    ensures { seen (told result) out.new ≡ cshakes 64 f1600 168 name.now customisation.now message.now out.old }
 {
     cshake_at(name, customisation, message, 168, out)
 }
 
 // cSHAKE256 (section 3.3); with name and customisation both empty it is SHAKE256.
-pub fn cshake256(name: &[u8], customisation: &[u8], message: &[u8], out: &mut [u8]) -> u8
-    ensures { seen result out.new ≡ cshakes 64 f1600 136 name.now customisation.now message.now out.old }
+pub fn cshake256(
+    name: &[u8],
+    customisation: &[u8],
+    message: &[u8],
+    out: &mut [u8],
+) -> Result<(), Refusal>
+    ensures { seen (told result) out.new ≡ cshakes 64 f1600 136 name.now customisation.now message.now out.old }
 {
     cshake_at(name, customisation, message, 136, out)
 }
 
 // KMAC128 (section 4.3): a code of the lent slice's length, 16 to 256 bytes, by a key of 16 to 256 bytes.
-pub fn kmac128(key: &[u8], customisation: &[u8], message: &[u8], out: &mut [u8]) -> u8
-    ensures { seen result out.new ≡ kmacs 64 f1600 168 key.now customisation.now message.now out.old }
+pub fn kmac128(
+    key: &[u8],
+    customisation: &[u8],
+    message: &[u8],
+    out: &mut [u8],
+) -> Result<(), Refusal>
+    ensures { seen (told result) out.new ≡ kmacs 64 f1600 168 key.now customisation.now message.now out.old }
 {
     kmac_at(key, customisation, message, 168, out)
 }
 
 // KMAC256 (section 4.3).
-pub fn kmac256(key: &[u8], customisation: &[u8], message: &[u8], out: &mut [u8]) -> u8
-    ensures { seen result out.new ≡ kmacs 64 f1600 136 key.now customisation.now message.now out.old }
+pub fn kmac256(
+    key: &[u8],
+    customisation: &[u8],
+    message: &[u8],
+    out: &mut [u8],
+) -> Result<(), Refusal>
+    ensures { seen (told result) out.new ≡ kmacs 64 f1600 136 key.now customisation.now message.now out.old }
 {
     kmac_at(key, customisation, message, 136, out)
 }
 
 // KMACXOF128 (section 4.3.1). It fills the lent slice, which may be empty.
-pub fn kmacxof128(key: &[u8], customisation: &[u8], message: &[u8], out: &mut [u8]) -> u8
-    ensures { seen result out.new ≡ kmacxofs 64 f1600 168 key.now customisation.now message.now out.old }
+pub fn kmacxof128(
+    key: &[u8],
+    customisation: &[u8],
+    message: &[u8],
+    out: &mut [u8],
+) -> Result<(), Refusal>
+    ensures { seen (told result) out.new ≡ kmacxofs 64 f1600 168 key.now customisation.now message.now out.old }
 {
     kmacxof_at(key, customisation, message, 168, out)
 }
 
 // KMACXOF256 (section 4.3.1).
-pub fn kmacxof256(key: &[u8], customisation: &[u8], message: &[u8], out: &mut [u8]) -> u8
-    ensures { seen result out.new ≡ kmacxofs 64 f1600 136 key.now customisation.now message.now out.old }
+pub fn kmacxof256(
+    key: &[u8],
+    customisation: &[u8],
+    message: &[u8],
+    out: &mut [u8],
+) -> Result<(), Refusal>
+    ensures { seen (told result) out.new ≡ kmacxofs 64 f1600 136 key.now customisation.now message.now out.old }
 {
     kmacxof_at(key, customisation, message, 136, out)
 }
 
 // Whether a code is KMAC128's of the key, the customisation and the message, at its length.
-pub fn kmac128_verify(key: &[u8], customisation: &[u8], message: &[u8], code: &[u8]) -> Verdict
-    ensures { result ≡ verifies 64 f1600 168 key.now customisation.now message.now code.now }
+pub fn kmac128_verify(
+    key: &[u8],
+    customisation: &[u8],
+    message: &[u8],
+    code: &[u8],
+) -> Result<bool, Refusal>
+    ensures { verdict result ≡ verifies 64 f1600 168 key.now customisation.now message.now code.now }
 {
     verify_at(key, customisation, message, 168, code)
 }
 
 // Whether a code is KMAC256's.
-pub fn kmac256_verify(key: &[u8], customisation: &[u8], message: &[u8], code: &[u8]) -> Verdict
-    ensures { result ≡ verifies 64 f1600 136 key.now customisation.now message.now code.now }
+pub fn kmac256_verify(
+    key: &[u8],
+    customisation: &[u8],
+    message: &[u8],
+    code: &[u8],
+) -> Result<bool, Refusal>
+    ensures { verdict result ≡ verifies 64 f1600 136 key.now customisation.now message.now code.now }
 {
     verify_at(key, customisation, message, 136, code)
 }

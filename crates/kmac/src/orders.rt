@@ -1,58 +1,52 @@
 // The limits, and each call's tests in their order. The numbers are those of a key, a tag's length and a header.
 ghost use Rattle.std.specs.Prelude.{◌≡◌};
 ghost use Rattle.refusal.specs.Rows.{first};
-ghost use Rattle.kmac.specs.Refusals.{bad_size, cshake_rows, kmac_rows, kmacxof_rows};
+ghost use Rattle.refusal.specs.Numbers.{told};
+ghost use Rattle.kmac.specs.Refusals.{cshake_rows, kmac_rows, kmacxof_rows};
 
-// Keys and codes have so many bytes at least and at most.
-const LEAST_SIZE: usize = 16;
-
-const MOST_SIZE: usize = 256;
+use refusal::{Refusal, bad_size};
 
 // Names and customisations have so many bytes at most, as headers do.
 const MOST_STRING: usize = 65_535;
 
-// A key's or a code's length.
-fn bad_size(n: usize) -> bool
-    ensures { result ≡ bad_size n }
-{
-    refusal::outside(LEAST_SIZE, MOST_SIZE, n)
-}
-
-pub fn of_cshake(name: usize, customisation: usize) -> u8
-    ensures { result ≡ first (cshake_rows name customisation) }
+#[tactic(auto, using(refusal::proofs::Rows::rows))]
+pub fn of_cshake(name: usize, customisation: usize) -> Result<(), Refusal>
+    ensures { told result ≡ first (cshake_rows name customisation) }
 {
     if MOST_STRING < name {
-        return refusal::LONG_HEADER;
+        return Err(Refusal::LongHeader);
     }
     if MOST_STRING < customisation {
-        return refusal::LONG_HEADER;
+        return Err(Refusal::LongHeader);
     }
-    0
+    Ok(())
 }
 
-pub fn of_kmac(key: usize, out: usize, customisation: usize) -> u8
-    ensures { result ≡ first (kmac_rows key out customisation) }
+#[tactic(auto, using(refusal::proofs::Rows::rows))]
+pub fn of_kmac(key: usize, out: usize, customisation: usize) -> Result<(), Refusal>
+    ensures { told result ≡ first (kmac_rows key out customisation) }
 {
     if bad_size(key) {
-        return refusal::BAD_KEY;
+        return Err(Refusal::BadKey);
     }
     if bad_size(out) {
-        return refusal::BAD_TAG_LENGTH;
+        return Err(Refusal::BadTagLength);
     }
     if MOST_STRING < customisation {
-        return refusal::LONG_HEADER;
+        return Err(Refusal::LongHeader);
     }
-    0
+    Ok(())
 }
 
-pub fn of_kmacxof(key: usize, customisation: usize) -> u8
-    ensures { result ≡ first (kmacxof_rows key customisation) }
+#[tactic(auto, using(refusal::proofs::Rows::rows))]
+pub fn of_kmacxof(key: usize, customisation: usize) -> Result<(), Refusal>
+    ensures { told result ≡ first (kmacxof_rows key customisation) }
 {
     if bad_size(key) {
-        return refusal::BAD_KEY;
+        return Err(Refusal::BadKey);
     }
     if MOST_STRING < customisation {
-        return refusal::LONG_HEADER;
+        return Err(Refusal::LongHeader);
     }
-    0
+    Ok(())
 }

@@ -25,6 +25,7 @@ pub fn is_full(pairs: u32, calls: u64, ceiling: u64) -> bool
 // ---- the rows in their order, for sessions of any kind
 
 // The rows of an open; `rate` says that its rate is bad.
+#[tactic(auto, using(refusal::proofs::Rows::rows))]
 pub fn of_settings(rate: bool, key: usize, tag: usize) -> Result<(), Refusal>
     ensures { told result ≡ first (open_rows rate key tag) }
 {
@@ -41,6 +42,7 @@ pub fn of_settings(rate: bool, key: usize, tag: usize) -> Result<(), Refusal>
 }
 
 // A session's own rows, by what is found of its rate, of its tag length, and of its pairs and calls.
+#[tactic(auto, using(refusal::proofs::Rows::rows))]
 pub fn of_own(rate: bool, tag: bool, full: bool) -> Result<(), Refusal>
     ensures { told result ≡ first (own_rows rate tag full) }
 {
