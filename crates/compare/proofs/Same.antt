@@ -1,15 +1,14 @@
 -- The test that two lists are the same, and a difference that is gathered byte by byte.
-use Prim.Native.Nat.{ℕ, ◌+◌, ◌≤◌, ◌<◌}
-use native.Mathlib.Numerals.{add-one}
+use Prim.Native.Nat.{ℕ}
 use native.Mathlib.Omega.{arith}
 use mathlib.Core.Path.{◌≡◌, refl, sym, ap, ap₂, ◌∙◌}
 use mathlib.Core.List.{List, [], ◌∷◌}
 use mathlib.Core.Bool.{Bool, true, false}
 use lib.Dec.{eqb}
-use lib.ListN.{length, get_or, take}
-use lib.Seq.{take-suc, take_all, take-take, get_or-take}
+use lib.ListN.{length}
 use lib.Bits.{bit_xor, bit_or, or_add_and, xor_add_and, and_le_l, and_le_r, xor_self}
 use borrow.Author.Tests.{eqb-true, eq-eqb, ne_eqb}
+use Rattle.std.specs.List.{fold, zip}
 use Rattle.refusal.proofs.Tests.{both}
 use Rattle.compare.specs.Same.{same}
 
@@ -48,38 +47,27 @@ by_difference d x y p q = go (same x y) refl
     go true e = eq-eqb d 0 (q (same_eq x y e))
     go false e = ne_eqb d 0 (λ z. let w : ◌≡◌ {A = ℕ} 0 1 = cc (same_is x y (p z)) in omega arith)
 
--- ---- the difference as a loop gathers it
+-- ---- the difference that is gathered byte by byte
 
--- d is 0 just where the first i bytes are the same
-pub record Differs (x y : List ℕ) (i d : ℕ) : Type 0 where
-  pub none : d ≡ 0 → take i x ≡ take i y
-  pub zero_if : take i x ≡ take i y → d ≡ 0
+-- what is gathered onto d
+abbrev pub gathered : ℕ → List ℕ → List ℕ → ℕ
+gathered d x y = fold (λ d p. bit_or d (bit_xor p.0 p.1)) d (zip x y)
 
-pub differs_none : (x y : List ℕ) → Differs x y 0 0
-differs_none x y = record { none = λ _. refl; zero_if = λ _. refl }
-
-pub differs_more : (x y : List ℕ) (i d : ℕ) → Differs x y i d → i < length x → length x ≡ length y
-    → Differs x y (i + 1) (bit_or d (bit_xor (get_or x i 0) (get_or y i 0)))
-differs_more x y i d t h l =
-    let a : ℕ = get_or x i 0 in
-    let b : ℕ = get_or y i 0 in
+-- it is 0 only if each byte's difference is
+gathered_none : (d : ℕ) (x y : List ℕ) → length x ≡ length y → gathered d x y ≡ 0 → (d ≡ 0) × (x ≡ y)
+gathered_none d [] [] l z = (z, refl)
+gathered_none d [] (b ∷ y) l z = absurd (omega arith)
+gathered_none d (a ∷ x) [] l z = absurd (omega arith)
+gathered_none d (a ∷ x) (b ∷ y) l z =
     let m : ℕ = bit_xor a b in
-    let k : i < length y = omega arith in
-    record {
-      none = λ z.
-          let d0 : d ≡ 0 = omega (arith, or_add_and d m, and_le_r d m) in
-          let e : a ≡ b = omega (arith, or_add_and d m, and_le_l d m, xor_add_and a b, and_le_l a b, and_le_r a b) in
-          rw (add-one, take-suc x i 0 h, take-suc y i 0 k, t.none d0, e);
-      zero_if = λ z.
-          let p : take i x ≡ take i y = sym (take-take i (i + 1) x (omega arith)) ∙ ap (take i) z ∙ take-take i (i + 1) y (omega arith) in
-          let e : a ≡ b = sym (get_or-take (i + 1) x i 0 (omega arith)) ∙ ap (λ (q : List ℕ). get_or q i 0) z ∙ get_or-take (i + 1) y i 0 (omega arith) in
-          let d0 : d ≡ 0 = t.zero_if p in
-          let m0 : m ≡ 0 = ap (λ (q : ℕ). bit_xor q b) e ∙ xor_self b in
-          omega (arith, or_add_and d m);
-    }
+    let h = gathered_none (bit_or d m) x y (omega arith) z in
+    let m0 : m ≡ 0 = omega (arith, h.0, or_add_and d m, and_le_l d m) in
+    let e : a ≡ b = omega (arith, m0, xor_add_and a b, and_le_l a b, and_le_r a b) in
+    (omega (arith, h.0, or_add_and d m, and_le_r d m), rw (e, h.1))
 
-pub differs_all : (x y : List ℕ) (i d : ℕ) → Differs x y i d → length x ≤ i → length x ≡ length y → (d ≡ 0 → x ≡ y) × (x ≡ y → d ≡ 0)
-differs_all x y i d t h l =
-    let p : take i x ≡ x = take_all i x h in
-    let q : take i y ≡ y = take_all i y (omega arith) in
-    (λ z. sym p ∙ t.none z ∙ q, λ e. t.zero_if (ap (take i) e))
+gathered_same : (x : List ℕ) → gathered 0 x x ≡ 0
+gathered_same [] = refl
+gathered_same (a ∷ x) = ap (λ (d : ℕ). gathered d x x) (xor_self a) ∙ gathered_same x
+
+pub difference_is : (d : ℕ) (x y : List ℕ) → d ≡ gathered 0 x y → length x ≡ length y → (d ≡ 0 → x ≡ y) × (x ≡ y → d ≡ 0)
+difference_is d x y e l = (λ z. (gathered_none 0 x y l (sym e ∙ z)).1, λ q. e ∙ rw q (gathered_same y))

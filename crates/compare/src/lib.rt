@@ -14,16 +14,10 @@ pub fn is_same(x: &[u8], y: &[u8]) -> bool
     difference(x, y) == 0
 }
 
-// 0 where two strings of one length are the same.
+// 0 where two strings of one length are the same: every byte is read, and its difference kept.
 fn difference(x: &[u8], y: &[u8]) -> u8
     requires { length x.now ≡ length y.now }
     ensures { (result ≡ 0 → x.now ≡ y.now) × (x.now ≡ y.now → result ≡ 0) }
 {
-    let mut d = 0u8;
-    let mut i = 0;
-    while i < x.len() {
-        d = d | (x[i] ^ y[i]);
-        i += 1;
-    }
-    d
+    x.iter().zip(y).fold(0, |d, (a, b)| d | (a ^ b))
 }
