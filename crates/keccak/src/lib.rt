@@ -26,11 +26,11 @@ fn column_effects(c: [u64; 5]) -> [u64; 5]
     ensures { result ≡ effects 64 c }
 {
     [
-        c[4] ^ ((c[1] << 1) | (c[1] >> 63)),
-        c[0] ^ ((c[2] << 1) | (c[2] >> 63)),
-        c[1] ^ ((c[3] << 1) | (c[3] >> 63)),
-        c[2] ^ ((c[4] << 1) | (c[4] >> 63)),
-        c[3] ^ ((c[0] << 1) | (c[0] >> 63)),
+        c[4] ^ c[1].rotate_left(1),
+        c[0] ^ c[2].rotate_left(1),
+        c[1] ^ c[3].rotate_left(1),
+        c[2] ^ c[4].rotate_left(1),
+        c[3] ^ c[0].rotate_left(1),
     ]
 }
 
@@ -74,36 +74,36 @@ pub fn theta(a: [u64; 25]) -> [u64; 25]
     spread(a, column_effects(column_parities(a)))
 }
 
-// ρ (FIPS 202, section 3.2.2): each lane turned left by its offset. Lane 0 has offset 0 and stays: a shift by the whole width would be undefined.
+// ρ (FIPS 202, section 3.2.2): each lane turned left by its offset. Lane 0 has offset 0 and stays.
 pub fn rho(a: [u64; 25]) -> [u64; 25]
     ensures { result ≡ rho 64 a }
 {
     [
         a[0],
-        (a[1] << 1) | (a[1] >> 63),
-        (a[2] << 62) | (a[2] >> 2),
-        (a[3] << 28) | (a[3] >> 36),
-        (a[4] << 27) | (a[4] >> 37),
-        (a[5] << 36) | (a[5] >> 28),
-        (a[6] << 44) | (a[6] >> 20),
-        (a[7] << 6) | (a[7] >> 58),
-        (a[8] << 55) | (a[8] >> 9),
-        (a[9] << 20) | (a[9] >> 44),
-        (a[10] << 3) | (a[10] >> 61),
-        (a[11] << 10) | (a[11] >> 54),
-        (a[12] << 43) | (a[12] >> 21),
-        (a[13] << 25) | (a[13] >> 39),
-        (a[14] << 39) | (a[14] >> 25),
-        (a[15] << 41) | (a[15] >> 23),
-        (a[16] << 45) | (a[16] >> 19),
-        (a[17] << 15) | (a[17] >> 49),
-        (a[18] << 21) | (a[18] >> 43),
-        (a[19] << 8) | (a[19] >> 56),
-        (a[20] << 18) | (a[20] >> 46),
-        (a[21] << 2) | (a[21] >> 62),
-        (a[22] << 61) | (a[22] >> 3),
-        (a[23] << 56) | (a[23] >> 8),
-        (a[24] << 14) | (a[24] >> 50),
+        a[1].rotate_left(1),
+        a[2].rotate_left(62),
+        a[3].rotate_left(28),
+        a[4].rotate_left(27),
+        a[5].rotate_left(36),
+        a[6].rotate_left(44),
+        a[7].rotate_left(6),
+        a[8].rotate_left(55),
+        a[9].rotate_left(20),
+        a[10].rotate_left(3),
+        a[11].rotate_left(10),
+        a[12].rotate_left(43),
+        a[13].rotate_left(25),
+        a[14].rotate_left(39),
+        a[15].rotate_left(41),
+        a[16].rotate_left(45),
+        a[17].rotate_left(15),
+        a[18].rotate_left(21),
+        a[19].rotate_left(8),
+        a[20].rotate_left(18),
+        a[21].rotate_left(2),
+        a[22].rotate_left(61),
+        a[23].rotate_left(56),
+        a[24].rotate_left(14),
     ]
 }
 
@@ -145,7 +145,7 @@ pub fn iota(a: [u64; 25], constant: u64) -> [u64; 25]
     ensures { result ≡ iota constant a }
 {
     let mut b = a;
-    b[0] = b[0] ^ constant;
+    b[0] ^= constant;
     b
 }
 
@@ -160,14 +160,11 @@ fn one_round(a: [u64; 25], constant: u64) -> [u64; 25]
 pub fn permuted(a: [u64; 25]) -> [u64; 25]
     ensures { result ≡ f1600 a }
 {
-    // The compiler writes a const array out on the stack wherever a variable indexes it, so it is copied once, before the loop.
-    let table = tables::CONSTANTS;
     let mut b = a;
-    let mut k: usize = 0;
-    while k < 24 {
-        let next = one_round(b, table[k]);
+    for constant in tables::CONSTANTS {
+        // By a name of its own: the borrow checker lays no call's result over an array.
+        let next = one_round(b, constant);
         b = next;
-        k += 1;
     }
     b
 }

@@ -2,7 +2,7 @@
 ghost use Rattle.std.specs.Prelude.{◌≡◌};
 ghost use Rattle.keccak.specs.Tables.{offsets, constants};
 
-// The offsets of ρ, lane by lane; `rho` has them in its shifts.
+// The offsets of ρ, lane by lane; `rho` has them in its turns.
 const OFFSETS: [u32; 25] = [
     0, 1, 62, 28, 27, 36, 44, 6, 55, 20, 3, 10, 43, 25, 39, 41, 45, 15, 21, 8, 18, 2, 61, 56, 14,
 ];
