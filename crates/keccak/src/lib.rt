@@ -125,11 +125,11 @@ fn chi_row(a: [u64; 25], i: usize) -> [u64; 25]
 {
     let mut b = a;
     let row = [b[i], b[i + 1], b[i + 2], b[i + 3], b[i + 4]];
-    b[i] = row[0] ^ (!row[1] & row[2]);
-    b[i + 1] = row[1] ^ (!row[2] & row[3]);
-    b[i + 2] = row[2] ^ (!row[3] & row[4]);
-    b[i + 3] = row[3] ^ (!row[4] & row[0]);
-    b[i + 4] = row[4] ^ (!row[0] & row[1]);
+    b[i] ^= !row[1] & row[2];
+    b[i + 1] ^= !row[2] & row[3];
+    b[i + 2] ^= !row[3] & row[4];
+    b[i + 3] ^= !row[4] & row[0];
+    b[i + 4] ^= !row[0] & row[1];
     b
 }
 
