@@ -1,15 +1,14 @@
 -- Laws of numbers of k bytes, each once over k.
-use mathlib.Core.Path.{◌≡◌, refl, sym, ap, ◌∙◌}
+use mathlib.Core.Path.{◌≡◌, refl, sym, ap, ap₂, ◌∙◌}
 use mathlib.Core.List.{List, [], ◌∷◌, ◌++◌, append_assoc, append-nil}
-use Prim.Native.Nat.{ℕ, zero, suc, ◌+◌, ◌*◌, ◌/◌, ◌%◌, ◌^◌, ◌≤◌, ◌<◌}
-use native.Mathlib.Nat.{add-zero, add-suc, mul_assoc, add-mul, div-div-eq-div-mul, div-one, pow-succ', pow-suc, one-le-pow, zero-lt-suc}
-use native.Mathlib.Numerals.{add-one}
+use Prim.Native.Nat.{ℕ, zero, suc, ◌+◌, ◌-◌, ◌*◌, ◌/◌, ◌%◌, ◌^◌, ◌≤◌, ◌<◌}
+use native.Mathlib.Nat.{add-zero, zero-add, add-suc, mul_assoc, add-mul, div-div-eq-div-mul, div-one, pow-succ', pow-suc}
 use native.Mathlib.Omega.{arith}
-use lib.Arith.{mod-mul}
-use lib.ListN.{length, get_or, set, take, drop, length-append, length-drop}
+use lib.ListN.{length, get_or, take, drop, length-append, length-drop}
 use lib.Seq.{sets, take-suc, get_or-drop, get_or_at, get_or-append-add}
+use Rattle.std.proofs.lemmas.List.{get_or-take}
+use Rattle.std.specs.Int.{byte_at, byte_worth, bytes_high_first, sum_through}
 use Rattle.fields.specs.Numbers.{number_at, bytes_of}
-use Rattle.fields.proofs.Stores.{sets-append}
 
 -- ---- a number in two parts
 
@@ -33,33 +32,59 @@ bytes_join m (suc n) x =
     rw (add-suc m n, bytes_join m n (x / 256), div-div-eq-div-mul, pow-succ' 256 n)
     (append_assoc (bytes_of m (x / (256 * 256 ^ n))) (bytes_of n (x / 256)) (x % 256 ∷ []))
 
--- the last n bytes are those of the remainder
-bytes_low : (n x : ℕ) → bytes_of n (x % 256 ^ n) ≡ bytes_of n x
-unfolding bytes_of
-bytes_low zero x = refl
-bytes_low (suc n) x =
-    let e : x % 256 ^ suc n ≡ (x / 256 % 256 ^ n) * 256 + x % 256 = rw (pow-suc 256 n) (mod-mul x (one-le-pow n 256 (zero-lt-suc 255)) (zero-lt-suc 255)) in
-    let p : x % 256 ^ suc n / 256 ≡ x / 256 % 256 ^ n = omega arith in
-    let q : x % 256 ^ suc n % 256 ≡ x % 256 = omega arith in
-    rw (p, q, bytes_low n (x / 256))
-
--- a number stored as its high and its low part
-pub put_join : (m n : ℕ) (b c d : List ℕ) (at x : ℕ) → c ≡ sets b at (bytes_of m (x / 256 ^ n)) → d ≡ sets c (at + m) (bytes_of n (x % 256 ^ n))
-    → d ≡ sets b at (bytes_of (m + n) x)
-put_join m n b c d at x e f =
-    f ∙ ap (λ (l : List ℕ). sets l (at + m) (bytes_of n (x % 256 ^ n))) e
-    ∙ ap (sets (sets b at (bytes_of m (x / 256 ^ n))) (at + m)) (bytes_low n x)
-    ∙ sets-append b at (bytes_of m (x / 256 ^ n)) (bytes_of n x) (at + m) (ap (λ (i : ℕ). at + i) (sym (length-bytes_of m (x / 256 ^ n))))
-    ∙ ap (sets b at) (sym (bytes_join m n x))
-
 -- two bytes
 pub number_two : (b : List ℕ) (at : ℕ) → number_at 2 b at ≡ get_or b at 0 * 256 + get_or b (at + 1) 0
 unfolding number_at
 number_two b at = rw add-zero (omega arith)
 
-pub put_two : (b : List ℕ) (at n : ℕ) → n < 65536 → set (set b at (n / 256)) (at + 1) (n % 256) ≡ sets b at (bytes_of 2 n)
-unfolding bytes_of
-put_two b at n h = let e : n / 256 % 256 ≡ n / 256 = omega arith in rw (e, add-one)
+-- ---- std's words for them, which `from_be_bytes` and `to_be_bytes` promise
+
+worth_is : (i b : ℕ) → byte_worth i b ≡ b * 256 ^ i
+worth_is zero b = omega arith
+worth_is (suc i) b = refl
+
+-- the first j + 1 bytes of c, each at its place among k + 1
+weighed : (k j : ℕ) (c : List ℕ) → j ≤ k → sum_through (λ i. byte_worth (k - i) (get_or c i 0)) j ≡ number_at (suc j) c 0 * 256 ^ (k - j)
+unfolding number_at
+weighed k zero c h = let e : k - 0 ≡ k = omega arith in rw (e, worth_is k (get_or c 0 0)) (omega arith)
+weighed k (suc j) c h =
+    let e : k - j ≡ suc (k - suc j) = omega arith in
+    let n : 0 + suc j ≡ suc j = omega arith in
+    rw (weighed k j c (omega arith), worth_is (k - suc j) (get_or c (suc j) 0), e, pow-succ' 256 (k - suc j), n) (moved (number_at (suc j) c 0) _ _)
+  where
+    moved : (x y p : ℕ) → x * (256 * p) + y * p ≡ (x * 256 + y) * p
+    moved x y p = rw (add-mul (x * 256) y p, mul_assoc x 256 p) refl
+
+-- the part of b from `at` on holds the same number
+number_part : (k n : ℕ) (b : List ℕ) (at : ℕ) → k ≤ n → number_at k (take n (drop at b)) 0 ≡ number_at k b at
+unfolding number_at
+number_part zero n b at h = refl
+number_part (suc k) n b at h =
+    let e : get_or (take n (drop at b)) (0 + k) 0 ≡ get_or b (at + k) 0 = rw zero-add (get_or-take n (drop at b) k 0 h ∙ get_or-drop at b k 0) in
+    rw (number_part k n b at (omega arith), e)
+
+-- the number in the k + 1 bytes c of b
+pub read_is : (k : ℕ) (b c : List ℕ) (at n : ℕ) → c ≡ take (at + suc k - at) (drop at b) → n ≡ sum_through (λ i. byte_worth (k - i) (get_or c i 0)) k → n ≡ number_at (suc k) b at
+read_is k b c at n e f =
+    let z : k - k ≡ 0 = omega arith in
+    let w : at + suc k - at ≡ suc k = omega arith in
+    let g : number_at (suc k) c 0 ≡ number_at (suc k) b at = rw (e, w) (number_part (suc k) (suc k) b at (omega arith)) in
+    f ∙ weighed k k c (omega arith) ∙ rw (z, g) (omega arith)
+
+written_is : (k n : ℕ) → bytes_high_first k n ≡ bytes_of k n
+written_is zero n = unfold bytes_of in refl
+written_is (suc k) n = ap₂ (λ (x : ℕ) (l : List ℕ). x ∷ l) (top k) (written_is k n) ∙ sym joined
+  where
+    top : (k : ℕ) → byte_at k n ≡ n / 256 ^ k % 256
+    top zero = rw div-one
+    top (suc k) = refl
+
+    joined : bytes_of (suc k) n ≡ n / 256 ^ k % 256 ∷ bytes_of k n
+    joined = let e : suc k ≡ 1 + k = omega arith in rw (e, bytes_join 1 k n) (unfold bytes_of in refl)
+
+-- n stored as the bytes s
+pub put_is : (k n : ℕ) (b d s : List ℕ) (at : ℕ) → s ≡ bytes_high_first k n → d ≡ sets b at s → d ≡ sets b at (bytes_of k n)
+put_is k n b d s at e f = f ∙ ap (sets b at) (e ∙ written_is k n)
 
 -- ---- numbers and bytes are one-to-one
 

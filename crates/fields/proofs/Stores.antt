@@ -1,12 +1,11 @@
 -- Stores of lists, `sets l i xs`, one after the other.
 use mathlib.Core.Path.{◌≡◌, refl, sym, ap, ◌∙◌}
-use mathlib.Core.List.{List, [], ◌∷◌, ◌++◌}
-use Prim.Native.Nat.{ℕ, suc, ◌+◌, ◌≤◌, ◌<◌}
+use mathlib.Core.List.{List, [], ◌∷◌, ◌++◌, append_assoc}
+use Prim.Native.Nat.{ℕ, suc, ◌+◌, ◌-◌, ◌≤◌, ◌<◌}
 use native.Mathlib.Nat.{add-zero, add-suc, suc-add}
-use native.Mathlib.Numerals.{add-one}
 use native.Mathlib.Omega.{arith}
-use lib.ListN.{length, get_or, set, take}
-use lib.Seq.{sets, take-suc, take_all, length-take-le, get_or-set_other}
+use lib.ListN.{length, get_or, set, take, drop}
+use lib.Seq.{sets, sets-eq, drop-drop, get_or-set_other}
 
 -- neighbouring stores join
 pub sets-append : {A : Type 0} (l : List A) (i : ℕ) (xs ys : List A) (j : ℕ) → j ≡ i + length xs → sets (sets l i xs) j ys ≡ sets l i (xs ++ ys)
@@ -24,11 +23,8 @@ get_or-sets_after [] l i j d h = refl
 get_or-sets_after (x ∷ xs) l i j d h =
     get_or-sets_after xs (set l i x) (suc i) j d (omega arith) ∙ get_or-set_other l i j x d (λ e. omega arith)
 
--- one turn of a loop that stores x from `at` on, and its end
-pub store_more : (b r x : List ℕ) (at i : ℕ) → r ≡ sets b at (take i x) → i < length x → set r (at + i) (get_or x i 0) ≡ sets b at (take (i + 1) x)
-store_more b r x at i e h =
-    let l : at + i ≡ at + length (take i x) = omega (arith, length-take-le i x (omega arith)) in
-    rw (e, add-one, take-suc x i 0 h) (sets-append b at (take i x) (get_or x i 0 ∷ []) (at + i) l)
-
-pub store_done : (b r x : List ℕ) (at i : ℕ) → r ≡ sets b at (take i x) → length x ≤ i → r ≡ sets b at x
-store_done b r x at i e h = rw (e, take_all i x h)
+-- a part that was lent, and came back as x
+pub stored_over : (d x : List ℕ) (i e : ℕ) → e ≡ i + length x → e ≤ length d → take i d ++ (x ++ drop (e - i) (drop i d)) ≡ sets d i x
+stored_over d x i e p l =
+    let q : e - i ≡ length x = omega arith in
+    rw (q, drop-drop (length x) i d) (sym (sets-eq x d i (omega arith) ∙ append_assoc (take i d) x (drop (i + length x) d)))

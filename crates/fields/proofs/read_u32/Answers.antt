@@ -1,9 +1,0 @@
--- The number is its two halves.
-use native.Mathlib.Omega.{arith}
-use Rattle.fields.proofs.Numbers.{number_join}
-use Rattle.fields.proofs.read_u32.Goals as goal
-
-pub returns : goal.returns
-returns c =
-    let a = c.args in
-    omega (arith, number_join 2 2 a.b.now a.at)
