@@ -5,6 +5,7 @@ ghost use Rattle.spongewrap.specs.Refusals.{most_header, most_body};
 ghost use Rattle.bundle.specs.Format.{version1, bundle_rate, size, entry_at, bad_label};
 
 use crate::Entry;
+use fields::Number;
 use spongewrap::orders;
 
 // The version, and the settings of its session.
@@ -45,8 +46,8 @@ pub fn entry_at(bundle: &[u8], place: usize) -> Entry
     if left < LENGTHS {
         return Entry::Short;
     }
-    let header = fields::read_u16(bundle, place) as usize;
-    let body = fields::read_u32(bundle, place + 2) as usize;
+    let header = u16::read(bundle, place) as usize;
+    let body = u32::read(bundle, place + 2) as usize;
     if orders::MOST_BODY < body {
         return Entry::Large;
     }

@@ -5,6 +5,7 @@ ghost use Rattle.bundle.specs.Answers.{survey_told};
 ghost use Rattle.bundle.specs.Survey.{unlabelled, entries_from, surveys};
 
 use crate::{Entry, MALFORMED, NO_LABEL, OTHER_VERSION, Surveyed, entry_refusal, format};
+use fields::Number;
 
 const MOST_ENTRIES: usize = 65_535;
 
@@ -84,7 +85,7 @@ pub fn survey(bundle: &[u8]) -> Surveyed
             place: 1,
         };
     }
-    let stated = fields::read_u32(bundle, 1) as usize;
+    let stated = u32::read(bundle, 1) as usize;
     if stated != bytes - format::FIRST {
         return Surveyed::Refused {
             number: MALFORMED,

@@ -11,6 +11,7 @@ ghost use Rattle.bundle.specs.Writing.{Ready, start_table, bundle_of, starts, en
 use crate::{
     MALFORMED, NO_LABEL, OTHER_VERSION, Refusal, Reply, accept, format, own_refusal, refuse,
 };
+use fields::Number;
 use spongewrap::{Session, orders};
 
 // Writes what stands before an entry's ciphertext: the two lengths and the header. Answers the ciphertext's place.
@@ -18,8 +19,8 @@ fn write_front(header: &[u8], body: usize, bundle: &mut [u8], place: usize) -> u
     requires { (length header.now ≤ most_header) × (body ≤ most_body) × (place + 6 + length header.now ≤ length bundle.old) }
     ensures { (result ≡ place + 6 + length header.now) × (bundle.new ≡ sets bundle.old place (front_of header.now body)) }
 {
-    fields::put_u16(bundle, place, header.len() as u16);
-    fields::put_u32(bundle, place + 2, body as u32);
+    (header.len() as u16).put(bundle, place);
+    (body as u32).put(bundle, place + 2);
     let start = place + format::LENGTHS;
     fields::put_string(bundle, start, header);
     start + header.len()
@@ -60,7 +61,7 @@ fn write_first(s: Session, label: &[u8], bundle: &mut [u8]) -> Session
     ensures { (result ≡ next desk s label.now []) × (bundle.new ≡ sets bundle.old 0 (bundle_of version1 s label.now)) }
 {
     bundle[0] = format::VERSION;
-    fields::put_u32(bundle, 1, format::entry_size(label.len(), 0) as u32);
+    (format::entry_size(label.len(), 0) as u32).put(bundle, 1);
     write_entry(s, label, b"", bundle, format::FIRST)
 }
 
@@ -83,7 +84,7 @@ pub fn end_of(bundle: &[u8]) -> usize
     if bundle.len() < format::FIRST {
         return 0;
     }
-    let end = format::FIRST + fields::read_u32(bundle, 1) as usize;
+    let end = format::FIRST + u32::read(bundle, 1) as usize;
     if bundle.len() < end {
         return 0;
     }
@@ -172,7 +173,7 @@ fn write_last(s: Session, header: &[u8], body: &[u8], bundle: &mut [u8]) -> Sess
     let end = end_of(&bundle[..]);
     let raised = end_with(&bundle[..], header.len(), body.len());
     let session = write_entry(s, header, body, bundle, end);
-    fields::put_u32(bundle, 1, (raised - format::FIRST) as u32);
+    ((raised - format::FIRST) as u32).put(bundle, 1);
     session
 }
 

@@ -71,7 +71,8 @@ read_is k b c at n e f =
     let g : number_at (suc k) c 0 ≡ number_at (suc k) b at = rw (e, w) (number_part (suc k) (suc k) b at (omega arith)) in
     f ∙ weighed k k c (omega arith) ∙ rw (z, g) (omega arith)
 
-written_is : (k n : ℕ) → bytes_high_first k n ≡ bytes_of k n
+-- the k bytes of n
+pub written_is : (k n : ℕ) → bytes_high_first k n ≡ bytes_of k n
 written_is zero n = unfold bytes_of in refl
 written_is (suc k) n = ap₂ (λ (x : ℕ) (l : List ℕ). x ∷ l) (top k) (written_is k n) ∙ sym joined
   where

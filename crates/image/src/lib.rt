@@ -6,6 +6,7 @@ ghost use Rattle.refusal.specs.Rows.{by};
 ghost use Rattle.image.specs.Image.{image_length, image_of, session_of};
 ghost use Rattle.image.specs.Calls.{seen, opens_image, wraps_image, unwraps_image};
 
+use fields::Number;
 use spongewrap::{Answer, Session};
 
 // How many bytes an image has.
@@ -28,10 +29,10 @@ pub fn session_of(image: &[u8]) -> Session
     let lanes = sponge::mixed([0u64; 25], &image[..RATE_PLACE]);
     Session {
         lanes,
-        rate: fields::read_u16(image, RATE_PLACE),
-        tag: fields::read_u16(image, TAG_PLACE),
-        pairs: fields::read_u32(image, PAIRS_PLACE),
-        calls: fields::read_u64(image, CALLS_PLACE),
+        rate: u16::read(image, RATE_PLACE),
+        tag: u16::read(image, TAG_PLACE),
+        pairs: u32::read(image, PAIRS_PLACE),
+        calls: u64::read(image, CALLS_PLACE),
     }
 }
 
@@ -42,10 +43,10 @@ pub fn put_session(s: Session, image: &mut [u8])
 {
     let lanes = s.lanes;
     sponge::put_bytes(lanes, &mut image[..RATE_PLACE]);
-    fields::put_u16(image, RATE_PLACE, s.rate);
-    fields::put_u16(image, TAG_PLACE, s.tag);
-    fields::put_u32(image, PAIRS_PLACE, s.pairs);
-    fields::put_u64(image, CALLS_PLACE, s.calls);
+    s.rate.put(image, RATE_PLACE);
+    s.tag.put(image, TAG_PLACE);
+    s.pairs.put(image, PAIRS_PLACE);
+    s.calls.put(image, CALLS_PLACE);
 }
 
 // A call's answer: on success the new session is laid over the image, and a refusal leaves it.

@@ -1,20 +1,21 @@
 -- The count of bytes from the count of leading zeros, the last bytes of a number, and a string padded to whole blocks.
 use mathlib.Core.Path.{◌≡◌, refl, sym, ap, subst, ◌∙◌}
 use mathlib.Core.Bool.{Bool, true, false}
-use mathlib.Core.List.{List, ◌++◌, append-nil}
+use mathlib.Core.List.{List, ◌++◌}
 use mathlib.Core.Logic.{⊎_elim}
 use Prim.Native.Nat.{ℕ, zero, suc, ◌+◌, ◌-◌, ◌/◌, ◌%◌, ◌*◌, ◌^◌, ◌≤◌, ◌<◌}
 use native.Mathlib.Nat.{zero-add, add-zero, lt_of_lt_of_le, eq-or-lt_of_le}
 use native.Mathlib.Omega.{arith}
 use lib.ListN.{length, take, drop, replicate}
-use lib.Seq.{sets, sets-eq, take_all, drop_at}
+use lib.Seq.{take_all, drop_at}
 use lib.Pow.{pow_mono}
 use lib.Count.{count_leading_zeros, leading_top}
 use lib.Dec.{ltb}
 use borrow.Author.Tests.{ltb-true, ltb-false}
 use Rattle.refusal.specs.Rows.{pick}
+use Rattle.std.specs.Int.{bytes_high_first}
 use Rattle.fields.specs.Numbers.{bytes_of}
-use Rattle.fields.proofs.Numbers.{length-bytes_of, bytes_join}
+use Rattle.fields.proofs.Numbers.{length-bytes_of, bytes_join, written_is}
 use Rattle.absorber.specs.declared.Absorber.{Absorber}
 use Rattle.absorber.specs.Absorbing.{Absorbed}
 use Rattle.absorber.proofs.Parts.{parts, offset_is}
@@ -75,16 +76,12 @@ size_counted x p h =
     ⊎_elim (λ q. q) (λ q. absurd (omega (arith, r.1, t.2, pow_mono {i = 8 * size x} {j = j} (omega arith)))) (eq-or-lt_of_le l) in
     (e ∙ sym f, omega (arith, t.1))
 
--- ---- the last n bytes of x, in a buffer of eight
+-- ---- the last n bytes of x, of its eight
 
-pub last_bytes : (x n : ℕ) (b : List ℕ) → n ≤ 8 → b ≡ sets (replicate 8 0) 0 (bytes_of 8 x) → take (8 - (8 - n)) (drop (8 - n) b) ≡ bytes_of n x
+pub last_bytes : (x n : ℕ) (b : List ℕ) → n ≤ 8 → b ≡ bytes_high_first 8 x → take (8 - (8 - n)) (drop (8 - n) b) ≡ bytes_of n x
 last_bytes x n b h e =
     let m : 8 - n + n ≡ 8 = omega arith in
-    let B : List ℕ = bytes_of 8 x in
-    let l : length B ≡ 8 = length-bytes_of 8 x in
-    let f : b ≡ bytes_of (8 - n) (x / 256 ^ n) ++ bytes_of n x =
-    e ∙ sets-eq B (replicate 8 0) 0 (omega arith) ∙ ap (λ (i : ℕ). B ++ drop (0 + i) (replicate 8 0)) l ∙ append-nil B
-    ∙ rw m at (bytes_join (8 - n) n x) in
+    let f : b ≡ bytes_of (8 - n) (x / 256 ^ n) ++ bytes_of n x = e ∙ written_is 8 x ∙ rw m at (bytes_join (8 - n) n x) in
     rw (f, drop_at (bytes_of (8 - n) (x / 256 ^ n)) (bytes_of n x) (8 - n) (length-bytes_of (8 - n) (x / 256 ^ n)))
     (take_all (8 - (8 - n)) (bytes_of n x) (omega (arith, length-bytes_of n x)))
 

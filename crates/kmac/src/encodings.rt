@@ -23,8 +23,7 @@ fn absorbed_number(c: Absorber, x: u64, n: usize, rate: usize) -> Absorber
     requires { Ready 64 rate c.offset × (n ≤ 8) }
     ensures { Absorbed 64 f1600 rate c (bytes_of n x) result }
 {
-    let mut b = [0u8; 8];
-    fields::put_u64(&mut b, 0, x);
+    let b = x.to_be_bytes();
     let first = 8 - n;
     absorber::absorbed_string(c, &b[first..], rate)
 }

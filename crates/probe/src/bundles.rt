@@ -10,6 +10,7 @@ ghost use Rattle.image.specs.Calls.{seen, sized};
 ghost use Rattle.probe.specs.Bundles.{packed, packed_told, packed_answer, of_entry, of_bundle};
 
 use bundle::{Entry, Reply, Surveyed};
+use fields::Number;
 
 // How many bytes an entry's three numbers have.
 const ENTRY: usize = 24;
@@ -54,9 +55,9 @@ pub extern "C" fn probe_entry_at(bundle: &[u8], place: u64, entry: &mut [u8]) ->
     }
     match bundle::entry_at(bundle, place as usize) {
         Entry::Whole { header, body, next } => {
-            fields::put_u64(entry, 0, header as u64);
-            fields::put_u64(entry, 8, body as u64);
-            fields::put_u64(entry, 16, next as u64);
+            (header as u64).put(entry, 0);
+            (body as u64).put(entry, 8);
+            (next as u64).put(entry, 16);
             0
         }
         Entry::Short => 1,

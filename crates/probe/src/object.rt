@@ -7,6 +7,7 @@ ghost use Rattle.probe.specs.States.{object_length, object_of, duplex_of, of_obj
 
 use crate::{STATE, lanes_of};
 use duplex::Duplex;
+use fields::Number;
 
 // How many bytes a duplex object has: the state in block order, then the rate, big-endian.
 const OBJECT: usize = 202;
@@ -19,7 +20,7 @@ fn object_of(object: &[u8]) -> Duplex
     let lanes = lanes_of(object);
     Duplex {
         lanes,
-        rate: fields::read_u16(object, STATE),
+        rate: u16::read(object, STATE),
     }
 }
 
@@ -30,7 +31,7 @@ fn put_object(duplex: Duplex, object: &mut [u8])
 {
     let lanes = duplex.lanes;
     sponge::put_bytes(lanes, &mut object[..STATE]);
-    fields::put_u16(object, STATE, duplex.rate);
+    duplex.rate.put(object, STATE);
 }
 
 // A fresh duplex object at any rate.

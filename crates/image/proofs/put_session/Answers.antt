@@ -11,7 +11,7 @@ pub returns : goal.returns
 unfolding image_of
 returns c =
     laid c.args.s.lanes c.args.image.now _ _ (fields_of c.args.s) c.requires c.put_bytes.ensures
-    (rw (c.put_u64.ensures, c.put_u32.ensures, c.put_u16-2.ensures, c.put_u16.ensures))
+    (rw (c.put-4.ensures, c.put-3.ensures, c.put-2.ensures, c.put.ensures))
 
 pub slice_bounds-put_bytes-end-2 : goal.slice_bounds-put_bytes-end-2
 slice_bounds-put_bytes-end-2 c = sym (length-take-le 200 c.args.image.now (search rules))

@@ -1,8 +1,8 @@
--- The number's last bytes stand at the end of a buffer of eight.
+-- The number's last bytes stand at the end of its eight.
 use borrow.Author.Rules.{rules}
 use Rattle.kmac.proofs.Encoding.{last_bytes}
 use Rattle.kmac.proofs.encodings.absorbed_number.Goals as goal
 
 pub returns : goal.returns
 returns c =
-    rw (last_bytes c.args.x c.args.n _ (search rules) c.put_u64.ensures) at c.absorbed_string.ensures
+    rw (last_bytes c.args.x c.args.n _ (search rules) c.to_be_bytes-b.ensures) at c.absorbed_string.ensures

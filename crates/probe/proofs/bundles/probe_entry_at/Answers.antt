@@ -27,7 +27,7 @@ returns-then-entry-ne-ENTRY c = search other_length
 pub returns-in-Whole : goal.returns-in-Whole
 returns-in-Whole c =
     entry_is _ _ c.args.place _ (search rules) c.in-Whole.ensures _
-    (whole_is c.args.entry.now _ _ _ _ (search rules) (rw (c.put_u64-in-Whole-2.ensures, c.put_u64-in-Whole.ensures, c.put_u64.ensures)))
+    (whole_is c.args.entry.now _ _ _ _ (search rules) (rw (c.put-in-Whole-2.ensures, c.put-in-Whole.ensures, c.put.ensures)))
 
 pub returns-in-Short : goal.returns-in-Short
 returns-in-Short c = entry_is _ _ c.args.place _ (search rules) c.in-Short.ensures _ refl

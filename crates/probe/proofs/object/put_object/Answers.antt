@@ -11,7 +11,7 @@ use Rattle.probe.proofs.object.put_object.Goals as goal
 pub returns : goal.returns
 unfolding object_of
 returns c =
-    laid c.args.duplex.lanes c.args.object.now _ _ ((2, c.args.duplex.rate) ∷ []) c.requires c.put_bytes.ensures c.put_u16.ensures
+    laid c.args.duplex.lanes c.args.object.now _ _ ((2, c.args.duplex.rate) ∷ []) c.requires c.put_bytes.ensures c.put.ensures
 
 pub slice_bounds-put_bytes-end-2 : goal.slice_bounds-put_bytes-end-2
 slice_bounds-put_bytes-end-2 c = sym (length-take-le 200 c.args.object.now (search rules))
