@@ -17,8 +17,7 @@ use Rattle.sponge.specs.Hashes.{message_blocks, hash}
 use Rattle.sponge.proofs.Padding.{length-tail}
 use Rattle.sponge.proofs.Pieces.{blocks_of_front, absorb_more}
 use Rattle.absorber.proofs.Bytewise.{bytes-append, bytes_one, bytes_zeros, bytes_take, bytes_drop, mixed_zeros, mixed_at, mixed_snoc}
-use Rattle.absorber.specs.declared.Absorber.{Absorber}
-use Rattle.absorber.specs.Absorbing.{AreBytes, edge, fresh, turned, absorb_byte, absorb_string, ended, Absorbed}
+use Rattle.absorber.specs.Absorbing.{Absorbing, AreBytes, edge, fresh, turned, absorb_byte, absorb_string, ended, Absorbed}
 
 bytes_tail : (s m : ℕ) → s < 128 → AreBytes (tail s m)
 unfolding tail
@@ -26,30 +25,24 @@ bytes_tail s zero h = bytes_one (s + 128) (omega arith)
 bytes_tail s (suc m) h =
     bytes-append (s ∷ []) (replicate m 0 ++ (128 ∷ [])) (bytes_one s (omega arith)) (bytes-append (replicate m 0) (128 ∷ []) (bytes_zeros m) (bytes_one 128 (omega arith)))
 
-abbrev pub at : List ℕ → ℕ → Absorber
+abbrev pub at : List ℕ → ℕ → Absorbing
 at a n = record { lanes = a; offset = n }
 
 module _ (w : ℕ) (f : List ℕ → List ℕ) (R : ℕ) where
   -- ---- parts behind each other
 
   -- absorbing s and then t is absorbing s ++ t
-  pub absorb-append : (c : Absorber) (s t : List ℕ) → absorb_string w f R c (s ++ t) ≡ absorb_string w f R (absorb_string w f R c s) t
+  pub absorb-append : (c : Absorbing) (s t : List ℕ) → absorb_string w f R c (s ++ t) ≡ absorb_string w f R (absorb_string w f R c s) t
   unfolding absorb_string
   absorb-append c s t = foldl-append (absorb_byte w f R) c s t
 
-  pub parts : {c r u : Absorber} {s t : List ℕ} → Absorbed w f R c s r → Absorbed w f R r t u → Absorbed w f R c (s ++ t) u
+  pub parts : {c r u : Absorbing} {s t : List ℕ} → Absorbed w f R c s r → Absorbed w f R r t u → Absorbed w f R c (s ++ t) u
   parts {c} {r} {u} {s} {t} p q =
       record {
-        is = q.is ∙ ap (λ (x : Absorber). absorb_string w f R x t) p.is ∙ sym (absorb-append c s t);
+        is = q.is ∙ ap (λ (x : Absorbing). absorb_string w f R x t) p.is ∙ sym (absorb-append c s t);
         inside = q.inside;
         are_bytes = bytes-append s t p.are_bytes q.are_bytes;
       }
-
-  -- the two parts that a loop or a call leaves of s
-  pub split : (c : Absorber) (s : List ℕ) (n : ℕ) (r u : Absorber) → Absorbed w f R c (take n s) r → Absorbed w f R r (take (length s - n) (drop n s)) u → Absorbed w f R c s u
-  split c s n r u p q =
-      let e : take n s ++ take (length s - n) (drop n s) ≡ s = rw (take_all (length s - n) (drop n s) (omega (arith, length-drop n s))) (take-append-drop n s) in
-      rw e at (parts p q)
 
   -- ---- a block that is not full, and one that is
 
@@ -62,30 +55,30 @@ module _ (w : ℕ) (f : List ℕ → List ℕ) (R : ℕ) where
   turned_full a h = rw (div_self h, mod_self R)
 
   -- where it stands
-  pub offset_is : (c : Absorber) (s : List ℕ) → c.offset < R → (absorb_string w f R c s).offset ≡ (c.offset + length s) % R
+  pub offset_is : (c : Absorbing) (s : List ℕ) → c.offset < R → (absorb_string w f R c s).offset ≡ (c.offset + length s) % R
   unfolding absorb_string absorb_byte turned
   offset_is c [] h = rw add-zero (sym (mod-eq_of_lt h))
   offset_is c (b ∷ s) h =
       let e : c.offset + 1 + length s ≡ c.offset + suc (length s) = omega arith in
       offset_is (absorb_byte w f R c b) s (mod-lt (c.offset + 1) (omega arith)) ∙ mod-add-mod (c.offset + 1) R (length s) ∙ ap (λ (n : ℕ). n % R) e
 
-  -- s over a block's edge: as many bytes as the block lacks bring it there
-  pub over_edge : (c : Absorber) (s : List ℕ) (n : ℕ) (r u : Absorber) → c.offset < R → n ≡ (R - c.offset) % R → n ≤ length s
-      → Absorbed w f R c (take n s) r → Absorbed w f R (edge r.lanes) (take (length s - n) (drop n s)) u → Absorbed w f R c s u
-  over_edge c s n r u h e l p q =
+  -- s over a block's edge: as many bytes x as the block lacks bring it there, and the rest y follows
+  pub over_edge : (c : Absorbing) (s x y : List ℕ) (n : ℕ) (r u : Absorbing) → c.offset < R → n ≡ (R - c.offset) % R → length x ≡ n → x ≡ take n s → y ≡ drop n s
+      → Absorbed w f R c x r → Absorbed w f R (edge r.lanes) y u → Absorbed w f R c s u
+  over_edge c s x y n r u h e l g k p q =
       let z : c.offset + (R - c.offset) ≡ R = omega arith in
       let o : r.offset ≡ 0 =
-      ap (λ (x : Absorber). x.offset) p.is ∙ offset_is c (take n s) h
-      ∙ rw (length-take-le n s l, e, add-mod-mod c.offset (R - c.offset) R, z) (mod_self R) in
-      split c s n r u p (subst (λ (x : Absorber). Absorbed w f R x (take (length s - n) (drop n s)) u) (ap (at r.lanes) (sym o)) q)
+      ap (λ (v : Absorbing). v.offset) p.is ∙ offset_is c x h ∙ rw (l, e, add-mod-mod c.offset (R - c.offset) R, z) (mod_self R) in
+      let v : x ++ y ≡ s = rw (g, k) (take-append-drop n s) in
+      rw v at (parts p (subst (λ (t : Absorbing). Absorbed w f R t y u) (ap (at r.lanes) (sym o)) q))
 
   -- one byte more of s: in a block that has room for another, and at a block's end
-  module _ (c : Absorber) (s : List ℕ) (i : ℕ) (a : List ℕ) (n : ℕ) (e : at a n ≡ absorb_string w f R c (take i s)) (h : i < length s)
+  module _ (c : Absorbing) (s : List ℕ) (i : ℕ) (a : List ℕ) (n : ℕ) (e : at a n ≡ absorb_string w f R c (take i s)) (h : i < length s)
       (b : List ℕ) (g : b ≡ mixed w a (replicate n 0 ++ (get_or s i 0 ∷ []))) where
     byte_more : turned f R b (n + 1) ≡ absorb_string w f R c (take (i + 1) s)
     unfolding absorb_byte absorb_string
     byte_more =
-        ap (λ (y : List ℕ). turned f R y (n + 1)) g ∙ ap (λ (x : Absorber). absorb_byte w f R x (get_or s i 0)) e
+        ap (λ (y : List ℕ). turned f R y (n + 1)) g ∙ ap (λ (x : Absorbing). absorb_byte w f R x (get_or s i 0)) e
         ∙ sym (rw (add-one i, take-suc s i 0 h) (absorb-append c (take i s) (get_or s i 0 ∷ [])))
 
     pub byte_inside : n + 1 < R → at b (n + 1) ≡ absorb_string w f R c (take (i + 1) s)
@@ -107,12 +100,12 @@ module _ (w : ℕ) (f : List ℕ → List ℕ) (R : ℕ) where
         let m : length p + 1 + length s ≡ length p + suc (length s) = omega arith in
         let e : absorb_byte w f R (turned f R (mixed w a p) (length p)) x ≡ turned f R (mixed w a (p ++ (x ∷ []))) (length (p ++ (x ∷ []))) =
         rw (turned_inside (mixed w a p) (length p) (omega arith), n) (ap (λ (y : List ℕ). turned f R y (length p + 1)) (mixed_snoc w room a p x (omega arith) b)) in
-        ap (λ (y : Absorber). absorb_string w f R y s) e
+        ap (λ (y : Absorbing). absorb_string w f R y s) e
         ∙ filling a (p ++ (x ∷ [])) s (omega arith) (bytes-append p (x ∷ []) b (bytes_one x (k 0))) (λ i. k (suc i))
         ∙ ap₂ (λ (y : List ℕ) (z : ℕ). turned f R (mixed w a y) z) (append_assoc p (x ∷ []) s) (rw n m)
 
     -- from any offset
-    within : (c : Absorber) (s : List ℕ) → 0 < length s → c.offset + length s ≤ R → AreBytes s
+    within : (c : Absorbing) (s : List ℕ) → 0 < length s → c.offset + length s ≤ R → AreBytes s
         → absorb_string w f R c s ≡ turned f R (mixed w c.lanes (replicate c.offset 0 ++ s)) (c.offset + length s)
     unfolding absorb_string absorb_byte
     within c [] p h k = absurd (omega arith)
@@ -124,7 +117,7 @@ module _ (w : ℕ) (f : List ℕ → List ℕ) (R : ℕ) where
         ∙ ap₂ (λ (y : List ℕ) (z : ℕ). turned f R (mixed w c.lanes y) z) (append_assoc Z (x ∷ []) s) m
 
     -- s fills the block
-    fills : (c : Absorber) (s : List ℕ) → c.offset < R → c.offset + length s ≡ R → AreBytes s
+    fills : (c : Absorbing) (s : List ℕ) → c.offset < R → c.offset + length s ≡ R → AreBytes s
         → absorb_string w f R c s ≡ edge (f (mixed w c.lanes (replicate c.offset 0 ++ s)))
     fills c s h e k =
         within c s (omega arith) (omega arith) k ∙ rw e (turned_full (mixed w c.lanes (replicate c.offset 0 ++ s)) (omega arith))
@@ -142,18 +135,28 @@ module _ (w : ℕ) (f : List ℕ → List ℕ) (R : ℕ) where
         let P : List ℕ = take R (drop i s) in
         ap edge (rw d at g)
         ∙ sym (block st P p (length-take-le R (drop i s) (omega (arith, length-drop i s))) (bytes_take R (drop i s) (bytes_drop i s b)))
-        ∙ ap (λ (c : Absorber). absorb_string w f R c P) t
+        ∙ ap (λ (c : Absorbing). absorb_string w f R c P) t
         ∙ sym (absorb-append (edge a) (take i s) P)
         ∙ ap (absorb_string w f R (edge a)) (sym (take-add i R s) ∙ ap (λ (n : ℕ). take n s) (sym h))
 
+    -- the first block b of s, and what is behind it
+    pub block_first : (a b s t st : List ℕ) → 0 < R → b ≡ take R s → t ≡ drop R s → length t + R ≡ length s → AreBytes s → st ≡ absorb_block w f a b
+        → absorb_string w f R (edge st) t ≡ absorb_string w f R (edge a) s
+    block_first a b s t st p e g l k h =
+        let B : List ℕ = take R s in
+        ap₂ (λ (x y : List ℕ). absorb_string w f R (edge x) y) (rw e at h) g
+        ∙ ap (λ (c : Absorbing). absorb_string w f R c (drop R s)) (sym (block a B p (length-take-le R s (omega arith)) (bytes_take R s k)))
+        ∙ sym (absorb-append (edge a) B (drop R s))
+        ∙ ap (absorb_string w f R (edge a)) (take-append-drop R s)
+
     -- zeros to the block's edge, from it and from within the block
-    pub filled_none : (c : Absorber) → c.offset ≡ 0 → 0 < R → Absorbed w f R c (replicate ((R - c.offset) % R) 0) c
+    pub filled_none : (c : Absorbing) → c.offset ≡ 0 → 0 < R → Absorbed w f R c (replicate ((R - c.offset) % R) 0) c
     unfolding absorb_string
     filled_none c e p =
         let z : R - c.offset ≡ R = omega arith in
         rw (z, mod_self R) (record { is = refl; inside = omega arith; are_bytes = bytes_zeros 0 })
 
-    pub filled_more : (c : Absorber) (a : List ℕ) → length c.lanes ≡ 25 → (c.offset ≡ 0 → ⊥) → c.offset < R → a ≡ f c.lanes
+    pub filled_more : (c : Absorbing) (a : List ℕ) → length c.lanes ≡ 25 → (c.offset ≡ 0 → ⊥) → c.offset < R → a ≡ f c.lanes
         → Absorbed w f R c (replicate ((R - c.offset) % R) 0) (edge a)
     filled_more c a l n h e =
         let m : ℕ = R - c.offset in
@@ -170,13 +173,13 @@ module _ (w : ℕ) (f : List ℕ → List ℕ) (R : ℕ) where
     -- ---- a whole message, and its end
 
     -- the padding from any offset
-    pub ended_by : (c : Absorber) (s : ℕ) (r : List ℕ) → c.offset < R → s < 128 → r ≡ absorb_block w f c.lanes (padded R s (replicate c.offset 0)) → r ≡ ended w f R c s
+    pub ended_by : (c : Absorbing) (s : ℕ) (r : List ℕ) → c.offset < R → s < 128 → r ≡ absorb_block w f c.lanes (padded R s (replicate c.offset 0)) → r ≡ ended w f R c s
     unfolding ended absorb_block padded
     ended_by c s r h u e =
         let m : ℕ = R - 1 - c.offset in
         e
         ∙ ap (λ (n : ℕ). f (mixed w c.lanes (replicate c.offset 0 ++ tail s (R - 1 - n)))) (length-replicate {A = ℕ} c.offset 0)
-        ∙ ap (λ (x : Absorber). x.lanes) (sym (fills c (tail s m) h (omega (arith, length-tail s m)) (bytes_tail s m u)))
+        ∙ ap (λ (x : Absorbing). x.lanes) (sym (fills c (tail s m) h (omega (arith, length-tail s m)) (bytes_tail s m u)))
 
     blocks : (a M : List ℕ) (k : ℕ) → 0 < R → k * R ≤ length M → AreBytes M
         → absorb_string w f R (edge a) (take (k * R) M) ≡ edge (absorb w f a (blocks_of R (λ p. p) M k))
@@ -201,12 +204,12 @@ module _ (w : ℕ) (f : List ℕ → List ℕ) (R : ℕ) where
         let q : piece R (M ++ T) k ≡ D ++ T =
         ap (take R) (drop-append-le (k * R) M T (omega arith)) ∙ take_all R (D ++ T) (omega (arith, length-append D T, length-tail s (R - 1 - length D), length-drop (k * R) M)) in
         ap (λ (i : ℕ). (absorb_string w f R (absorb_string w f R fresh M) (tail s (R - 1 - i))).lanes) o
-        ∙ ap (λ (c : Absorber). c.lanes) (sym (absorb-append fresh M T) ∙ ap (absorb_string w f R fresh) (sym (take_all (suc k * R) (M ++ T) (omega arith))) ∙ blocks zeros (M ++ T) (suc k) p (omega arith) (bytes-append M T b (bytes_tail s _ u)))
+        ∙ ap (λ (c : Absorbing). c.lanes) (sym (absorb-append fresh M T) ∙ ap (absorb_string w f R fresh) (sym (take_all (suc k * R) (M ++ T) (omega arith))) ∙ blocks zeros (M ++ T) (suc k) p (omega arith) (bytes-append M T b (bytes_tail s _ u)))
         ∙ ap₂ (λ (B : List (List ℕ)) (y : List ℕ). absorb w f zeros (B ++ (y ∷ []))) (blocks_of_front R (λ p. p) M T k (omega arith)) q
         ∙ ap (λ (y : List ℕ). absorb w f zeros (blocks_of R (λ p. p) M k ++ ((y ++ tail s (R - 1 - length y)) ∷ []))) (sym t)
 
     -- the hash of a message that came in parts
-    pub hash_is : {M : List ℕ} {c : Absorber} (s n : ℕ) → 0 < R → s < 128 → Absorbed w f R fresh M c → squeeze w f R (ended w f R c s) n ≡ hash w f R s M n
+    pub hash_is : {M : List ℕ} {c : Absorbing} (s n : ℕ) → 0 < R → s < 128 → Absorbed w f R fresh M c → squeeze w f R (ended w f R c s) n ≡ hash w f R s M n
     unfolding hash
     hash_is {M} s n p u t = rw (t.is, ended_is M s p u t.are_bytes)
 

@@ -4,96 +4,106 @@
 
 ghost use Rattle.std.specs.Prelude.{◌≡◌, ◌-◌, ◌%◌, ◌<◌, replicate};
 ghost use Rattle.keccak.specs.Rounds.{f1600};
-ghost use Rattle.absorber.specs.Absorbing.{edge, fresh, ended, Absorbed, Ready};
+ghost use Rattle.absorber.specs.Absorbing.{Absorbing, edge, fresh, ended, Absorbed, Ready};
 
+use std::marker::Model;
+
+// A sponge between two parts of its message, at a rate of `RATE` bytes.
 #[derive(Clone, Copy)]
-pub struct Absorber {
-    pub lanes: [u64; 25],
-    pub offset: usize,
+pub struct Absorber<const RATE: usize> {
+    lanes: [u64; 25],
+    offset: usize,
 }
 
-// A sponge that has absorbed nothing.
-pub fn fresh() -> Absorber
-    ensures { result ≡ fresh }
-{
-    Absorber {
-        lanes: [0u64; 25],
-        offset: 0,
-    }
+// Clauses see lanes and offset. Of every absorber the rate is in whole lanes, and the next block has room for a byte.
+impl<const RATE: usize> Model for Absorber<RATE> {
+    ghost Value = { Absorbing };
+
+    ghost view = { λ c. record { lanes = c.lanes; offset = c.offset } };
+
+    ghost invariant = { λ c. Ready 64 RATE c.offset };
+
+    ghost inverse = { λ v. record { lanes = v.lanes; offset = v.offset } };
 }
 
-// Bytes absorbed one by one.
-fn absorbed_bytes(c: Absorber, s: &[u8], rate: usize) -> Absorber
-    requires { Ready 64 rate c.offset }
-    ensures { Absorbed 64 f1600 rate c s.now result }
-{
-    let mut lanes = c.lanes;
-    let mut offset = c.offset;
-    let mut i = 0;
-    while i < s.len() {
-        let j = offset / 8;
-        lanes[j] = lanes[j] ^ ((s[i] as u64) << (8 * (offset % 8)));
-        offset += 1;
-        if offset == rate {
-            lanes = keccak::permuted(lanes);
-            offset = 0;
+impl<const RATE: usize> Absorber<RATE> {
+    // A sponge that has absorbed nothing.
+    pub fn fresh() -> Self
+        requires { Ready 64 RATE 0 }
+        ensures { result ≡ fresh }
+    {
+        Absorber {
+            lanes: [0; 25],
+            offset: 0,
         }
-        i += 1;
     }
-    Absorber { lanes, offset }
-}
 
-// A string absorbed from a block's edge on: whole blocks lane by lane, and byte by byte what is left.
-fn absorbed_blocks(a: [u64; 25], s: &[u8], rate: usize) -> Absorber
-    requires { Ready 64 rate 0 }
-    ensures { Absorbed 64 f1600 rate (edge a) s.now result }
-{
-    let mut lanes = a;
-    let mut at = 0;
-    while rate <= s.len() - at {
-        let e = at + rate;
-        let next = sponge::absorbed_block(lanes, &s[at..e]);
-        lanes = next;
-        at = e;
+    // Bytes absorbed one by one.
+    fn absorbed_bytes(&self, s: &[u8]) -> Self
+        ensures { Absorbed 64 f1600 RATE self.now s.now result }
+    {
+        let mut lanes = self.lanes;
+        let mut offset = self.offset;
+        for &byte in s {
+            let j = offset / 8;
+            lanes[j] ^= (byte as u64) << (8 * (offset % 8));
+            offset += 1;
+            if offset == RATE {
+                lanes = keccak::permuted(lanes);
+                offset = 0;
+            }
+        }
+        Absorber { lanes, offset }
     }
-    absorbed_bytes(Absorber { lanes, offset: 0 }, &s[at..], rate)
-}
 
-// A string absorbed: byte by byte up to the block's edge, and from there on.
-pub fn absorbed_string(c: Absorber, s: &[u8], rate: usize) -> Absorber
-    requires { Ready 64 rate c.offset }
-    ensures { Absorbed 64 f1600 rate c s.now result }
-{
-    let left = (rate - c.offset) % rate;
-    if s.len() < left {
-        return absorbed_bytes(c, s, rate);
+    // A string absorbed from a block's edge on: whole blocks lane by lane, and byte by byte what is left.
+    fn absorbed_blocks(lanes: [u64; 25], s: &[u8]) -> Self
+        requires { Ready 64 RATE 0 }
+        ensures { Absorbed 64 f1600 RATE (edge lanes) s.now result }
+    {
+        let mut lanes = lanes;
+        let mut rest = s;
+        while let Some((block, behind)) = rest.split_first_chunk::<RATE>() {
+            // The proof's borrow rules take a call's array into a loop's variable by way of a name.
+            let next = sponge::absorbed_block(lanes, block);
+            lanes = next;
+            rest = behind;
+        }
+        Absorber { lanes, offset: 0 }.absorbed_bytes(rest)
     }
-    let whole = absorbed_bytes(c, &s[..left], rate);
-    let lanes = whole.lanes;
-    absorbed_blocks(lanes, &s[left..], rate)
-}
 
-// Zeros absorbed up to the next block. They change no byte, so that only a permutation is left to do.
-#[tactic(auto, using(crate::proofs::Parts::filled_none))]
-pub fn filled(c: Absorber, rate: usize) -> Absorber
-    requires { Ready 64 rate c.offset }
-    ensures { Absorbed 64 f1600 rate c (replicate ((rate - c.offset) % rate) 0) result × (result.offset ≡ 0) }
-{
-    if c.offset == 0 {
-        return c;
+    // A string absorbed: byte by byte up to the block's edge, and from there on.
+    pub fn absorbed(&self, s: &[u8]) -> Self
+        ensures { Absorbed 64 f1600 RATE self.now s.now result }
+    {
+        let left = (RATE - self.offset) % RATE;
+        let Some((front, behind)) = s.split_at_checked(left) else {
+            return self.absorbed_bytes(s);
+        };
+        let whole = self.absorbed_bytes(front);
+        Self::absorbed_blocks(whole.lanes, behind)
     }
-    Absorber {
-        lanes: keccak::permuted(c.lanes),
-        offset: 0,
-    }
-}
 
-// The message's end: the suffix byte and the padding absorbed. The output is squeezed from these lanes.
-pub fn ended(c: Absorber, suffix: u8, rate: usize) -> [u64; 25]
-    requires { Ready 64 rate c.offset × (suffix < 128) }
-    ensures { result ≡ ended 64 f1600 rate c suffix }
-{
-    let offset = c.offset;
-    let none = [0u8; 200];
-    sponge::absorbed_piece(c.lanes, &none[..offset], suffix, rate)
+    // Zeros absorbed up to the next block. They change no byte, so that only a permutation is left to do.
+    #[tactic(auto, using(crate::proofs::Parts::filled_none))]
+    pub fn filled(&self) -> Self
+        ensures { Absorbed 64 f1600 RATE self.now (replicate ((RATE - self.now.offset) % RATE) 0) result × (result.offset ≡ 0) }
+    {
+        if self.offset == 0 {
+            return *self;
+        }
+        Absorber {
+            lanes: keccak::permuted(self.lanes),
+            offset: 0,
+        }
+    }
+
+    // The message's end: the suffix byte and the padding absorbed. The output is squeezed from these lanes.
+    pub fn ended(&self, suffix: u8) -> [u64; 25]
+        requires { suffix < 128 }
+        ensures { result ≡ ended 64 f1600 RATE self.now suffix }
+    {
+        let none = [0; 200];
+        sponge::absorbed_piece(self.lanes, &none[..self.offset], suffix, RATE)
+    }
 }

@@ -16,8 +16,7 @@ use Rattle.refusal.specs.Rows.{pick}
 use Rattle.std.specs.Int.{bytes_high_first}
 use Rattle.fields.specs.Numbers.{bytes_of}
 use Rattle.fields.proofs.Numbers.{length-bytes_of, bytes_join, written_is}
-use Rattle.absorber.specs.declared.Absorber.{Absorber}
-use Rattle.absorber.specs.Absorbing.{Absorbed}
+use Rattle.absorber.specs.Absorbing.{Absorbing, Absorbed}
 use Rattle.absorber.proofs.Parts.{parts, offset_is}
 use Rattle.kmac.specs.Encodings.{first_from, size, left_encode, filled, bytepad}
 
@@ -88,11 +87,11 @@ last_bytes x n b h e =
 -- ---- from a block's edge to the next
 
 module _ (w : ℕ) (f : List ℕ → List ℕ) (R : ℕ) where
-  pub bytepad_is : {c r u : Absorber} (X : List ℕ) → c.offset ≡ 0 → 0 < R → Absorbed w f R c (left_encode R ++ X) r
+  pub bytepad_is : {c r u : Absorbing} (X : List ℕ) → c.offset ≡ 0 → 0 < R → Absorbed w f R c (left_encode R ++ X) r
       → Absorbed w f R r (replicate ((R - r.offset) % R) 0) u → Absorbed w f R c (bytepad X R) u
   unfolding bytepad filled
   bytepad_is {c} {r} {u} X z p t q =
       let Z : List ℕ = left_encode R ++ X in
       let e : r.offset ≡ length Z % R =
-      ap (λ (y : Absorber). y.offset) t.is ∙ offset_is w f R c Z (omega arith) ∙ ap (λ (n : ℕ). (n + length Z) % R) z ∙ ap (λ (n : ℕ). n % R) (zero-add (length Z)) in
+      ap (λ (y : Absorbing). y.offset) t.is ∙ offset_is w f R c Z (omega arith) ∙ ap (λ (n : ℕ). (n + length Z) % R) z ∙ ap (λ (n : ℕ). n % R) (zero-add (length Z)) in
       parts w f R t (subst (λ (n : ℕ). Absorbed w f R r (replicate ((R - n) % R) 0) u) e q)

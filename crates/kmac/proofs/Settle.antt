@@ -14,8 +14,7 @@ use Rattle.refusal.proofs.Rows.{kept, made, all_clear}
 use Rattle.sponge.specs.Sponge.{squeeze}
 use Rattle.sponge.specs.Hashes.{hash}
 use Rattle.sponge.proofs.Squeeze.{length-squeeze}
-use Rattle.absorber.specs.declared.Absorber.{Absorber}
-use Rattle.absorber.specs.Absorbing.{fresh, ended, Absorbed, Ready}
+use Rattle.absorber.specs.Absorbing.{Absorbing, fresh, ended, Absorbed, Ready}
 use Rattle.absorber.proofs.Parts.{parts, hash_is}
 use Rattle.kmac.specs.Encodings.{right_encode, encode_string, bytepad}
 use Rattle.kmac.specs.Functions.{kmac_name, cshake, new_x}
@@ -68,14 +67,14 @@ module _ (w : ℕ) (f : List ℕ → List ℕ) (R : ℕ) where
 
   module _ (room : 0 < w / 8) (ready : Ready w R 0) where
     -- from all that is absorbed, where there is a name or a customisation
-    pub named_is : {X y : List ℕ} {h c : Absorber} (N S : List ℕ) (n : ℕ) → (length N + length S ≡ 0 → ⊥)
+    pub named_is : {X y : List ℕ} {h c : Absorbing} (N S : List ℕ) (n : ℕ) → (length N + length S ≡ 0 → ⊥)
         → Absorbed w f R fresh (bytepad (encode_string N ++ encode_string S) R) h → Absorbed w f R h X c
         → y ≡ squeeze w f R (ended w f R c 0x04) n → y ≡ cshake w f R X n N S
     unfolding cshake pick
     named_is N S n d t u e =
         rw (ne_eqb (length N + length S) 0 d) (e ∙ hash_is w f R room ready.most 0x04 n ready.inside (omega arith) (parts w f R t u))
 
-    pub keyed_is : {X y : List ℕ} {h k m c : Absorber} (K S : List ℕ) (l n : ℕ) → Absorbed w f R fresh (bytepad (encode_string kmac_name ++ encode_string S) R) h
+    pub keyed_is : {X y : List ℕ} {h k m c : Absorbing} (K S : List ℕ) (l n : ℕ) → Absorbed w f R fresh (bytepad (encode_string kmac_name ++ encode_string S) R) h
         → Absorbed w f R h (bytepad (encode_string K) R) k → Absorbed w f R k X m → Absorbed w f R m (right_encode l) c
         → y ≡ squeeze w f R (ended w f R c 0x04) n → y ≡ cshake w f R (new_x R K X l) n kmac_name S
     unfolding new_x

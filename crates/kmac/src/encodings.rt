@@ -19,71 +19,66 @@ fn byte_count(x: u64) -> usize
 }
 
 // The last n bytes of x.
-fn absorbed_number(c: Absorber, x: u64, n: usize, rate: usize) -> Absorber
-    requires { Ready 64 rate c.offset × (n ≤ 8) }
-    ensures { Absorbed 64 f1600 rate c (bytes_of n x) result }
+fn absorbed_number<const RATE: usize>(c: &Absorber<RATE>, x: u64, n: usize) -> Absorber<RATE>
+    requires { n ≤ 8 }
+    ensures { Absorbed 64 f1600 RATE c.now (bytes_of n x) result }
 {
-    let b = x.to_be_bytes();
-    let first = 8 - n;
-    absorber::absorbed_string(c, &b[first..], rate)
+    c.absorbed(&x.to_be_bytes()[8 - n..])
 }
 
 // A count of bytes, in a byte.
-fn absorbed_count(c: Absorber, n: usize, rate: usize) -> Absorber
-    requires { Ready 64 rate c.offset × (n ≤ 8) }
-    ensures { Absorbed 64 f1600 rate c (n ∷ []) result }
+fn absorbed_count<const RATE: usize>(c: &Absorber<RATE>, n: usize) -> Absorber<RATE>
+    requires { n ≤ 8 }
+    ensures { Absorbed 64 f1600 RATE c.now (n ∷ []) result }
 {
-    let b = [n as u8];
-    absorber::absorbed_string(c, &b, rate)
+    c.absorbed(&[n as u8])
 }
 
 // left_encode: the count, and then the bytes of x.
-fn left_encoded(c: Absorber, x: u64, rate: usize) -> Absorber
-    requires { Ready 64 rate c.offset }
-    ensures { Absorbed 64 f1600 rate c (left_encode x) result }
+fn left_encoded<const RATE: usize>(c: &Absorber<RATE>, x: u64) -> Absorber<RATE>
+    ensures { Absorbed 64 f1600 RATE c.now (left_encode x) result }
 {
     let n = byte_count(x);
-    let counted = absorbed_count(c, n, rate);
-    absorbed_number(counted, x, n, rate)
+    let counted = absorbed_count(c, n);
+    absorbed_number(&counted, x, n)
 }
 
 // right_encode: the bytes of x, and then their count.
-pub fn right_encoded(c: Absorber, x: u64, rate: usize) -> Absorber
-    requires { Ready 64 rate c.offset }
-    ensures { Absorbed 64 f1600 rate c (right_encode x) result }
+pub fn right_encoded<const RATE: usize>(c: &Absorber<RATE>, x: u64) -> Absorber<RATE>
+    ensures { Absorbed 64 f1600 RATE c.now (right_encode x) result }
 {
     let n = byte_count(x);
-    let begun = absorbed_number(c, x, n, rate);
-    absorbed_count(begun, n, rate)
+    let begun = absorbed_number(c, x, n);
+    absorbed_count(&begun, n)
 }
 
 // encode_string: a string behind its length in bits.
-fn string_encoded(c: Absorber, s: &[u8], rate: usize) -> Absorber
-    requires { Ready 64 rate c.offset × (length s.now ≤ most_string) }
-    ensures { Absorbed 64 f1600 rate c (encode_string s.now) result }
+fn string_encoded<const RATE: usize>(c: &Absorber<RATE>, s: &[u8]) -> Absorber<RATE>
+    requires { length s.now ≤ most_string }
+    ensures { Absorbed 64 f1600 RATE c.now (encode_string s.now) result }
 {
     let bits = 8 * (s.len() as u64);
-    let begun = left_encoded(c, bits, rate);
-    absorber::absorbed_string(begun, s, rate)
+    let begun = left_encoded(c, bits);
+    begun.absorbed(s)
 }
 
 // bytepad of a name and a customisation, from the start.
-pub fn names_padded(name: &[u8], customisation: &[u8], rate: usize) -> Absorber
-    requires { Ready 64 rate 0 × (length name.now ≤ most_string) × (length customisation.now ≤ most_string) }
-    ensures { Absorbed 64 f1600 rate fresh (bytepad (encode_string name.now ++ encode_string customisation.now) rate) result × (result.offset ≡ 0) }
+pub fn names_padded<const RATE: usize>(name: &[u8], customisation: &[u8]) -> Absorber<RATE>
+    requires { Ready 64 RATE 0 × (length name.now ≤ most_string) × (length customisation.now ≤ most_string) }
+    ensures { Absorbed 64 f1600 RATE fresh (bytepad (encode_string name.now ++ encode_string customisation.now) RATE) result × (result.offset ≡ 0) }
 {
-    let begun = left_encoded(absorber::fresh(), rate as u64, rate);
-    let named = string_encoded(begun, name, rate);
-    let both = string_encoded(named, customisation, rate);
-    absorber::filled(both, rate)
+    let begun = left_encoded(&Absorber::fresh(), RATE as u64);
+    let named = string_encoded(&begun, name);
+    let both = string_encoded(&named, customisation);
+    both.filled()
 }
 
 // bytepad of a key, from a block's edge on.
-pub fn key_padded(c: Absorber, key: &[u8], rate: usize) -> Absorber
-    requires { Ready 64 rate 0 × (c.offset ≡ 0) × (length key.now ≤ most_string) }
-    ensures { Absorbed 64 f1600 rate c (bytepad (encode_string key.now) rate) result }
+pub fn key_padded<const RATE: usize>(c: &Absorber<RATE>, key: &[u8]) -> Absorber<RATE>
+    requires { (c.now.offset ≡ 0) × (length key.now ≤ most_string) }
+    ensures { Absorbed 64 f1600 RATE c.now (bytepad (encode_string key.now) RATE) result }
 {
-    let begun = left_encoded(c, rate as u64, rate);
-    let keyed = string_encoded(begun, key, rate);
-    absorber::filled(keyed, rate)
+    let begun = left_encoded(c, RATE as u64);
+    let keyed = string_encoded(&begun, key);
+    keyed.filled()
 }

@@ -22,208 +22,163 @@ use refusal::Refusal;
 // ---- at any rate
 
 // The output of a cSHAKE that has a name or a customisation, from all that it absorbs.
-fn squeeze_named(c: Absorber, rate: usize, out: &mut [u8])
-    requires { Ready 64 rate c.offset }
-    ensures { out.new ≡ squeeze 64 f1600 rate (ended 64 f1600 rate c 0x04) (length out.old) }
+fn squeeze_named<const RATE: usize>(c: &Absorber<RATE>, out: &mut [u8])
+    requires { Ready 64 RATE 0 }
+    ensures { out.new ≡ squeeze 64 f1600 RATE (ended 64 f1600 RATE c.now 0x04) (length out.old) }
 {
-    sponge::squeeze_into(absorber::ended(c, 0x04, rate), rate, out);
+    sponge::squeeze_into(c.ended(0x04), RATE, out);
 }
 
 // cSHAKE.
-fn cshake_at(
+fn cshake_at<const RATE: usize>(
     name: &[u8],
     customisation: &[u8],
     message: &[u8],
-    rate: usize,
     out: &mut [u8],
 ) -> Result<(), Refusal>
-    requires { Ready 64 rate 0 }
-    ensures { seen (told result) out.new ≡ cshakes 64 f1600 rate name.now customisation.now message.now out.old }
+    requires { Ready 64 RATE 0 }
+    ensures { seen (told result) out.new ≡ cshakes 64 f1600 RATE name.now customisation.now message.now out.old }
 {
     orders::of_cshake(name.len(), customisation.len())?;
     if name.len() + customisation.len() == 0 {
-        sponge::hash_into(message, 0x1F, rate, out);
+        sponge::hash_into(message, 0x1F, RATE, out);
         return Ok(());
     }
-    let head = encodings::names_padded(name, customisation, rate);
-    let whole = absorber::absorbed_string(head, message, rate);
-    squeeze_named(whole, rate, out);
+    let head = encodings::names_padded::<RATE>(name, customisation);
+    let whole = head.absorbed(message);
+    squeeze_named(&whole, out);
     Ok(())
 }
 
 // KMAC with `bits` for the length of its output: 0 for an output of any length.
-fn keyed_into(
+fn keyed_into<const RATE: usize>(
     key: &[u8],
     customisation: &[u8],
     message: &[u8],
     bits: u64,
-    rate: usize,
     out: &mut [u8],
 )
-    requires { Ready 64 rate 0 × (length key.now ≤ most_size) × (length customisation.now ≤ most_string) }
-    ensures { out.new ≡ cshake 64 f1600 rate (new_x rate key.now message.now bits) (length out.old) kmac_name customisation.now }
+    requires { Ready 64 RATE 0 × (length key.now ≤ most_size) × (length customisation.now ≤ most_string) }
+    ensures { out.new ≡ cshake 64 f1600 RATE (new_x RATE key.now message.now bits) (length out.old) kmac_name customisation.now }
 {
-    let head = encodings::names_padded(b"KMAC", customisation, rate);
-    let keyed = encodings::key_padded(head, key, rate);
-    let most = absorber::absorbed_string(keyed, message, rate);
-    let whole = encodings::right_encoded(most, bits, rate);
-    squeeze_named(whole, rate, out);
+    let head = encodings::names_padded::<RATE>(b"KMAC", customisation);
+    let keyed = encodings::key_padded(&head, key);
+    let most = keyed.absorbed(message);
+    let whole = encodings::right_encoded(&most, bits);
+    squeeze_named(&whole, out);
 }
 
 // KMAC: a code of the output's length.
-fn kmac_at(
+fn kmac_at<const RATE: usize>(
     key: &[u8],
     customisation: &[u8],
     message: &[u8],
-    rate: usize,
     out: &mut [u8],
 ) -> Result<(), Refusal>
-    requires { Ready 64 rate 0 }
-    ensures { seen (told result) out.new ≡ kmacs 64 f1600 rate key.now customisation.now message.now out.old }
+    requires { Ready 64 RATE 0 }
+    ensures { seen (told result) out.new ≡ kmacs 64 f1600 RATE key.now customisation.now message.now out.old }
 {
     orders::of_kmac(key.len(), out.len(), customisation.len())?;
     let bits = 8 * (out.len() as u64);
-    keyed_into(key, customisation, message, bits, rate, out);
+    keyed_into::<RATE>(key, customisation, message, bits, out);
     Ok(())
 }
 
 // KMACXOF: an output of any length.
-fn kmacxof_at(
+fn kmacxof_at<const RATE: usize>(
     key: &[u8],
     customisation: &[u8],
     message: &[u8],
-    rate: usize,
     out: &mut [u8],
 ) -> Result<(), Refusal>
-    requires { Ready 64 rate 0 }
-    ensures { seen (told result) out.new ≡ kmacxofs 64 f1600 rate key.now customisation.now message.now out.old }
+    requires { Ready 64 RATE 0 }
+    ensures { seen (told result) out.new ≡ kmacxofs 64 f1600 RATE key.now customisation.now message.now out.old }
 {
     orders::of_kmacxof(key.len(), customisation.len())?;
-    keyed_into(key, customisation, message, 0, rate, out);
+    keyed_into::<RATE>(key, customisation, message, 0, out);
     Ok(())
 }
 
 // Whether a code is the one that KMAC gives at its length. Both are looked at to their last byte.
-fn is_code(key: &[u8], customisation: &[u8], message: &[u8], rate: usize, code: &[u8]) -> bool
-    requires { Ready 64 rate 0 × (length key.now ≤ most_size) × (length customisation.now ≤ most_string) × (length code.now ≤ most_size) }
-    ensures { result ≡ same code.now (kmac 64 f1600 rate key.now message.now (length code.now) customisation.now) }
+fn is_code<const RATE: usize>(key: &[u8], customisation: &[u8], message: &[u8], code: &[u8]) -> bool
+    requires { Ready 64 RATE 0 × (length key.now ≤ most_size) × (length customisation.now ≤ most_string) × (length code.now ≤ most_size) }
+    ensures { result ≡ same code.now (kmac 64 f1600 RATE key.now message.now (length code.now) customisation.now) }
 {
     let n = code.len();
     let bits = 8 * (n as u64);
     let mut due = [0u8; 256];
-    keyed_into(key, customisation, message, bits, rate, &mut due[..n]);
+    keyed_into::<RATE>(key, customisation, message, bits, &mut due[..n]);
     compare::is_same(code, &due[..n])
 }
 
 // KMAC's verification.
-fn verify_at(
+fn verify_at<const RATE: usize>(
     key: &[u8],
     customisation: &[u8],
     message: &[u8],
-    rate: usize,
     code: &[u8],
 ) -> Result<bool, Refusal>
-    requires { Ready 64 rate 0 }
-    ensures { verdict result ≡ verifies 64 f1600 rate key.now customisation.now message.now code.now }
+    requires { Ready 64 RATE 0 }
+    ensures { verdict result ≡ verifies 64 f1600 RATE key.now customisation.now message.now code.now }
 {
     orders::of_kmac(key.len(), code.len(), customisation.len())?;
-    Ok(is_code(key, customisation, message, rate, code))
+    Ok(is_code::<RATE>(key, customisation, message, code))
 }
 
 // ---- the standard's functions, at their rates
 
 // cSHAKE128 (section 3.3). It fills the lent slice, which may be empty; with name and customisation both empty it is SHAKE128.
-pub fn cshake128(
-    name: &[u8],
-    customisation: &[u8],
-    message: &[u8],
-    out: &mut [u8],
-) -> Result<(), Refusal>
+pub fn cshake128(name: &[u8], customisation: &[u8], message: &[u8], out: &mut [u8]) -> Result<(), Refusal>
     ensures { seen (told result) out.new ≡ cshakes 64 f1600 168 name.now customisation.now message.now out.old }
 {
-    cshake_at(name, customisation, message, 168, out)
+    cshake_at::<168>(name, customisation, message, out)
 }
 
 // cSHAKE256 (section 3.3); with name and customisation both empty it is SHAKE256.
-pub fn cshake256(
-    name: &[u8],
-    customisation: &[u8],
-    message: &[u8],
-    out: &mut [u8],
-) -> Result<(), Refusal>
+pub fn cshake256(name: &[u8], customisation: &[u8], message: &[u8], out: &mut [u8]) -> Result<(), Refusal>
     ensures { seen (told result) out.new ≡ cshakes 64 f1600 136 name.now customisation.now message.now out.old }
 {
-    cshake_at(name, customisation, message, 136, out)
+    cshake_at::<136>(name, customisation, message, out)
 }
 
 // KMAC128 (section 4.3): a code of the lent slice's length, 16 to 256 bytes, by a key of 16 to 256 bytes.
-pub fn kmac128(
-    key: &[u8],
-    customisation: &[u8],
-    message: &[u8],
-    out: &mut [u8],
-) -> Result<(), Refusal>
+pub fn kmac128(key: &[u8], customisation: &[u8], message: &[u8], out: &mut [u8]) -> Result<(), Refusal>
     ensures { seen (told result) out.new ≡ kmacs 64 f1600 168 key.now customisation.now message.now out.old }
 {
-    kmac_at(key, customisation, message, 168, out)
+    kmac_at::<168>(key, customisation, message, out)
 }
 
 // KMAC256 (section 4.3).
-pub fn kmac256(
-    key: &[u8],
-    customisation: &[u8],
-    message: &[u8],
-    out: &mut [u8],
-) -> Result<(), Refusal>
+pub fn kmac256(key: &[u8], customisation: &[u8], message: &[u8], out: &mut [u8]) -> Result<(), Refusal>
     ensures { seen (told result) out.new ≡ kmacs 64 f1600 136 key.now customisation.now message.now out.old }
 {
-    kmac_at(key, customisation, message, 136, out)
+    kmac_at::<136>(key, customisation, message, out)
 }
 
 // KMACXOF128 (section 4.3.1). It fills the lent slice, which may be empty.
-pub fn kmacxof128(
-    key: &[u8],
-    customisation: &[u8],
-    message: &[u8],
-    out: &mut [u8],
-) -> Result<(), Refusal>
+pub fn kmacxof128(key: &[u8], customisation: &[u8], message: &[u8], out: &mut [u8]) -> Result<(), Refusal>
     ensures { seen (told result) out.new ≡ kmacxofs 64 f1600 168 key.now customisation.now message.now out.old }
 {
-    kmacxof_at(key, customisation, message, 168, out)
+    kmacxof_at::<168>(key, customisation, message, out)
 }
 
 // KMACXOF256 (section 4.3.1).
-pub fn kmacxof256(
-    key: &[u8],
-    customisation: &[u8],
-    message: &[u8],
-    out: &mut [u8],
-) -> Result<(), Refusal>
+pub fn kmacxof256(key: &[u8], customisation: &[u8], message: &[u8], out: &mut [u8]) -> Result<(), Refusal>
     ensures { seen (told result) out.new ≡ kmacxofs 64 f1600 136 key.now customisation.now message.now out.old }
 {
-    kmacxof_at(key, customisation, message, 136, out)
+    kmacxof_at::<136>(key, customisation, message, out)
 }
 
 // Whether a code is KMAC128's of the key, the customisation and the message, at its length.
-pub fn kmac128_verify(
-    key: &[u8],
-    customisation: &[u8],
-    message: &[u8],
-    code: &[u8],
-) -> Result<bool, Refusal>
+pub fn kmac128_verify(key: &[u8], customisation: &[u8], message: &[u8], code: &[u8]) -> Result<bool, Refusal>
     ensures { verdict result ≡ verifies 64 f1600 168 key.now customisation.now message.now code.now }
 {
-    verify_at(key, customisation, message, 168, code)
+    verify_at::<168>(key, customisation, message, code)
 }
 
 // Whether a code is KMAC256's.
-pub fn kmac256_verify(
-    key: &[u8],
-    customisation: &[u8],
-    message: &[u8],
-    code: &[u8],
-) -> Result<bool, Refusal>
+pub fn kmac256_verify(key: &[u8], customisation: &[u8], message: &[u8], code: &[u8]) -> Result<bool, Refusal>
     ensures { verdict result ≡ verifies 64 f1600 136 key.now customisation.now message.now code.now }
 {
-    verify_at(key, customisation, message, 136, code)
+    verify_at::<136>(key, customisation, message, code)
 }

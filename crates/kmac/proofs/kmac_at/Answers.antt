@@ -12,23 +12,23 @@ use Rattle.kmac.proofs.kmac_at.Goals as goal
 
 pub returns-in_err-of_kmac : goal.returns-in_err-of_kmac
 unfolding kmacs
-returns-in_err-of_kmac c =
+returns-in_err-of_kmac g c =
     let p = err_from_is_err_and c.from_residual.result c.from_residual.ensures.1 in
     rw (p.1, p.2) (refused _ _ _ _ c.in_err-of_kmac.ensures (numbered_refusal _))
 
 pub overflow_mul-bits : goal.overflow_mul-bits
-overflow_mul-bits c =
+overflow_mul-bits g c =
     let a = c.args in
     let p = kmac_fits (length a.key.now) (length a.out.now) (length a.customisation.now) _ c.in_ok-of_kmac.ensures refl in
     record { fits = omega (arith, p.2) }
 
 pub keyed_into-requires : goal.keyed_into-requires
-keyed_into-requires c =
+keyed_into-requires g c =
     let a = c.args in
     let p = kmac_fits _ (length a.out.now) _ _ c.in_ok-of_kmac.ensures refl in
     (search rules, p.0, p.1)
 
 pub returns : goal.returns
 unfolding kmacs kmac
-returns c =
+returns g c =
     taken _ _ _ _ _ c.in_ok-of_kmac.ensures refl c.keyed_into.ensures

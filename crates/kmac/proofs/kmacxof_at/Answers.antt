@@ -10,16 +10,16 @@ use Rattle.kmac.proofs.kmacxof_at.Goals as goal
 
 pub returns-in_err-of_kmacxof : goal.returns-in_err-of_kmacxof
 unfolding kmacxofs
-returns-in_err-of_kmacxof c =
+returns-in_err-of_kmacxof g c =
     let p = err_from_is_err_and c.from_residual.result c.from_residual.ensures.1 in
     rw (p.1, p.2) (refused _ _ _ _ c.in_err-of_kmacxof.ensures (numbered_refusal _))
 
 pub keyed_into-requires : goal.keyed_into-requires
-keyed_into-requires c =
+keyed_into-requires g c =
     let p = kmacxof_fits _ _ _ c.in_ok-of_kmacxof.ensures refl in
     (search rules, p.0, p.1)
 
 pub returns : goal.returns
 unfolding kmacxofs kmacxof
-returns c =
+returns g c =
     taken _ _ _ _ _ c.in_ok-of_kmacxof.ensures refl c.keyed_into.ensures

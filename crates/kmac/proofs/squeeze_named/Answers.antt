@@ -2,4 +2,4 @@
 use Rattle.kmac.proofs.squeeze_named.Goals as goal
 
 pub returns : goal.returns
-returns c = cc
+returns g c = cc

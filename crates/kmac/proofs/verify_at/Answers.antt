@@ -9,15 +9,15 @@ use Rattle.kmac.proofs.verify_at.Goals as goal
 
 pub returns-in_err-of_kmac : goal.returns-in_err-of_kmac
 unfolding verifies
-returns-in_err-of_kmac c =
+returns-in_err-of_kmac g c =
     let p = err_from_is_err_and c.from_residual.result c.from_residual.ensures.1 in
     rw (p.1, p.2) (not_judged _ _ _ c.in_err-of_kmac.ensures (numbered_refusal _))
 
 pub is_code-requires : goal.is_code-requires
-is_code-requires c =
+is_code-requires g c =
     let p = kmac_fits _ _ _ _ c.in_ok-of_kmac.ensures refl in
     (search rules, p.0, p.1, p.2)
 
 pub returns : goal.returns
 unfolding verifies
-returns c = judged_by _ _ _ _ c.in_ok-of_kmac.ensures refl c.is_code.ensures
+returns g c = judged_by _ _ _ _ c.in_ok-of_kmac.ensures refl c.is_code.ensures

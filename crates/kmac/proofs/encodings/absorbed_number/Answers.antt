@@ -4,5 +4,5 @@ use Rattle.kmac.proofs.Encoding.{last_bytes}
 use Rattle.kmac.proofs.encodings.absorbed_number.Goals as goal
 
 pub returns : goal.returns
-returns c =
-    rw (last_bytes c.args.x c.args.n _ (search rules) c.to_be_bytes-b.ensures) at c.absorbed_string.ensures
+returns g c =
+    rw (last_bytes c.args.x c.args.n _ (search rules) c.to_be_bytes.ensures) at c.absorbed.ensures

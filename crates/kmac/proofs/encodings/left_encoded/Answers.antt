@@ -6,4 +6,4 @@ use Rattle.kmac.proofs.encodings.left_encoded.Goals as goal
 
 pub returns : goal.returns
 unfolding left_encode
-returns c = rw c.byte_count-n.ensures.0 at (parts 64 f1600 _ c.absorbed_count-counted.ensures c.absorbed_number.ensures)
+returns g c = rw c.byte_count-n.ensures.0 at (parts 64 f1600 _ c.absorbed_count-counted.ensures c.absorbed_number.ensures)

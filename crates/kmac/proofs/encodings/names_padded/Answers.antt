@@ -6,10 +6,7 @@ use Rattle.absorber.proofs.Parts.{parts}
 use Rattle.kmac.proofs.Encoding.{bytepad_is}
 use Rattle.kmac.proofs.encodings.names_padded.Goals as goal
 
-pub left_encoded-begun-requires : goal.left_encoded-begun-requires
-left_encoded-begun-requires c = rw c.fresh.ensures (search rules)
-
 pub returns : goal.returns
-returns c =
+returns g c =
     let l = rw c.fresh.ensures at c.left_encoded-begun.ensures in
     (bytepad_is 64 f1600 _ _ refl (search rules) (parts 64 f1600 _ l (parts 64 f1600 _ c.string_encoded-named.ensures c.string_encoded-both.ensures)) c.filled.ensures.0, c.filled.ensures.1)

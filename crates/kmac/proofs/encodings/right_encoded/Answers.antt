@@ -6,4 +6,4 @@ use Rattle.kmac.proofs.encodings.right_encoded.Goals as goal
 
 pub returns : goal.returns
 unfolding right_encode
-returns c = rw c.byte_count-n.ensures.0 at (parts 64 f1600 _ c.absorbed_number-begun.ensures c.absorbed_count.ensures)
+returns g c = rw c.byte_count-n.ensures.0 at (parts 64 f1600 _ c.absorbed_number-begun.ensures c.absorbed_count.ensures)

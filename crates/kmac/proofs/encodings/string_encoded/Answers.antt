@@ -6,4 +6,4 @@ use Rattle.kmac.proofs.encodings.string_encoded.Goals as goal
 
 pub returns : goal.returns
 unfolding encode_string
-returns c = parts 64 f1600 _ c.left_encoded-begun.ensures c.absorbed_string.ensures
+returns g c = parts 64 f1600 _ c.left_encoded-begun.ensures c.absorbed.ensures

@@ -1,0 +1,21 @@
+-- The bytes that are in already are zeros of the last piece.
+use borrow.Author.Rules.{rules}
+use mathlib.Core.Path.{◌≡◌, ap, ◌∙◌}
+use mathlib.Core.List.{List}
+use Prim.Native.Nat.{ℕ}
+use native.Mathlib.Omega.{arith}
+use lib.ListN.{take, replicate}
+use Rattle.std.proofs.lemmas.List.{take-replicate}
+use Rattle.keccak.specs.Rounds.{f1600}
+use Rattle.sponge.specs.Padding.{padded}
+use Rattle.sponge.specs.Sponge.{absorb_block}
+use Rattle.absorber.proofs.Parts.{at, ended_by}
+use Rattle.absorber.proofs.Absorber.ended.Goals as goal
+
+pub returns : goal.returns
+returns g c =
+    let v = c.self.inside in
+    let n = v.offset in
+    let z : take {A = ℕ} n (replicate 200 0) ≡ replicate n 0 = take-replicate n 200 0 (omega arith) in
+    rw (← c.self.view_is) (ended_by 64 f1600 _ (omega arith) c.self.invariant.most (at v.lanes n) _ _ (search rules) c.requires
+    (c.absorbed_piece.ensures ∙ ap (λ (p : List ℕ). absorb_block 64 f1600 v.lanes (padded g.row.RATE c.args.suffix p)) z))
