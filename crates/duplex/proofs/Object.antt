@@ -7,11 +7,13 @@ use Prim.Native.Nat.{ℕ, ◌≤◌, ◌<◌}
 use borrow.Author.Tests.{eqb-true, leb-false, ltb-false, not-false}
 use lib.Dec.{eqb, leb, ltb, lit<, lit≤}
 use lib.ListN.{length, take}
+use Rattle.std.proofs.Common.{Ok, Err}
+use Rattle.std.specs.Int.{from_bool}
 use Rattle.refusal.proofs.Tests.{neither}
 use Rattle.keccak.specs.Rounds.{f1600}
 use Rattle.sponge.specs.Bytes.{bytes}
 use Rattle.duplex.specs.Duplex.{Rate, duplexing}
-use Rattle.duplex.specs.Object.{bit, duplex_refused, seen, duplex_settled, duplexes}
+use Rattle.duplex.specs.Object.{bit, duplex_refused, outcome, seen, duplex_settled, duplexes}
 use Rattle.duplex.specs.declared.Duplex.{Duplex}
 
 one_fails : (x y : Bool) → (not x && not y) ≡ false → (x ≡ true) ⊎ (y ≡ true)
@@ -34,18 +36,18 @@ duplex_passes R piece out e =
       ltb-false R out p.1,
     )
 
-pub bit_small : (b : Bool) → bit b < 2
-bit_small true = lit< tt
-bit_small false = lit< tt
+bit_is : (b : Bool) → from_bool b ≡ bit b
+bit_is true = refl
+bit_is false = refl
 
 -- ---- what a call gives
 
-module _ (d : Duplex) (p : List ℕ) (b : Bool) (o : List ℕ) where
-  pub refusing : duplex_refused d.rate (length p) (length o) ≡ true → seen (record { done = false; duplex = d }) o ≡ duplexes d p b o
+module _ (d : Duplex) (p : List ℕ) (b : Bool) (o : List ℕ) (R : ℕ) (r : R ≡ d.rate) where
+  pub refusing : duplex_refused R (length p) (length o) ≡ true → seen (outcome (Err (record { duplex = d }))) o ≡ duplexes d p b o
   unfolding duplexes duplex_settled
-  refusing e = rw e
+  refusing e = rw (← r, e)
 
-  pub doing : (n : ℕ) (l o' : List ℕ) → duplex_refused d.rate (length p) (length o) ≡ false → n ≡ bit b → l ≡ duplexing 64 f1600 d.rate d.lanes p n
-      → o' ≡ take (length o) (bytes 64 l) → seen (record { done = true; duplex = record { lanes = l; rate = d.rate } }) o' ≡ duplexes d p b o
+  pub doing : (n : ℕ) (l o' : List ℕ) → duplex_refused R (length p) (length o) ≡ false → n ≡ from_bool b → l ≡ duplexing 64 f1600 R d.lanes p n
+      → o' ≡ take (length o) (bytes 64 l) → seen (outcome (Ok (record { lanes = l; rate = d.rate }))) o' ≡ duplexes d p b o
   unfolding duplexes duplex_settled
-  doing n l o' e f h q = rw (e, q, h, f)
+  doing n l o' e f h q = rw (← r, e, q, h, f, bit_is)

@@ -1,10 +1,20 @@
 -- The duplex object over Keccak-f[1600]: what is seen of one call, for every input (the duplex object of "Duplexing the sponge").
-use Rattle.std.specs.Prelude.{ℕ, List, Bool, true, false, not, ◌&&◌, ◌||◌, eqb, ltb, leb, length, take}
+use Rattle.std.specs.Prelude.{ℕ, List, Bool, true, false, not, ◌&&◌, ◌||◌, eqb, ltb, leb, length, take, Result, Ok, Err}
 use Rattle.keccak.specs.Rounds.{f1600}
 use Rattle.sponge.specs.Bytes.{bytes}
 use Rattle.duplex.specs.Duplex.{duplexing}
 use Rattle.duplex.specs.declared.Duplex.{Duplex}
-use Rattle.duplex.specs.declared.Outcome.{Outcome}
+use Rattle.duplex.specs.declared.Refused.{Refused}
+
+-- what a call answers: whether it was done, and the object after it
+pub record Outcome : Type 0 where
+  pub done : Bool
+  pub duplex : Duplex
+
+-- a `Result` read so: a refused call hands the object back
+abbrev pub outcome : Result Duplex Refused → Outcome
+outcome (Ok d) = record { done = true; duplex = d }
+outcome (Err r) = record { done = false; duplex = r.duplex }
 
 -- what is seen of a call: its answer, and the lent output as it is left
 pub record Seen : Type 0 where

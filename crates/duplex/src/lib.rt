@@ -8,7 +8,7 @@ ghost use Rattle.sponge.specs.Bytes.{bytes};
 ghost use Rattle.sponge.specs.Sponge.{zeros};
 ghost use Rattle.duplex.specs.Duplex.{Rate, duplexing, blank, drawn, state_after};
 ghost use Rattle.duplex.specs.Strings.{xored, absorbed, sealed, opened};
-ghost use Rattle.duplex.specs.Object.{bit, duplex_refused, seen, duplexes};
+ghost use Rattle.duplex.specs.Object.{duplex_refused, outcome, seen, duplexes};
 
 // A duplex object: the state, and how many bytes of it a block covers.
 #[derive(Clone, Copy)]
@@ -17,10 +17,9 @@ pub struct Duplex {
     pub rate: u16,
 }
 
-// What a call answers: whether it was done, and the object after it.
+// A refused call hands the object back as it took it.
 #[derive(Clone, Copy)]
-pub struct Outcome {
-    pub done: bool,
+pub struct Refused {
     pub duplex: Duplex,
 }
 
@@ -36,43 +35,26 @@ impl Duplex {
     }
 
     // One duplexing: a piece of at most rate - 1 bytes goes in, and the lent slice, at most rate bytes, is filled with output.
-    pub fn duplexing(self, piece: &[u8], frame: bool, out: &mut [u8]) -> Outcome
-        ensures { seen result out.new ≡ duplexes self piece.now frame out.old }
+    // It answers with the object after it.
+    pub fn duplexing(self, piece: &[u8], frame: bool, out: &mut [u8]) -> Result<Duplex, Refused>
+        ensures { seen (outcome result) out.new ≡ duplexes self piece.now frame out.old }
     {
-        let rate = self.rate as usize;
+        let rate = usize::from(self.rate);
         if is_refused(rate, piece.len(), out.len()) {
-            return Outcome {
-                done: false,
-                duplex: self,
-            };
+            return Err(Refused { duplex: self });
         }
-        let before = self.lanes;
-        let lanes = duplexed(before, piece, frame_bit(frame), rate);
+        let lanes = duplexed(self.lanes, piece, u8::from(frame), rate);
         sponge::put_bytes(lanes, out);
-        let duplex = Duplex {
-            lanes,
-            rate: self.rate,
-        };
-        Outcome { done: true, duplex }
+        Ok(Duplex { lanes, ..self })
     }
 }
 
+// A rate that is not offered, a piece that leaves no room for its frame, or more output than a block.
+#[tactic(auto, unfolding(crate::specs::Object::duplex_refused))]
 fn is_refused(rate: usize, piece: usize, out: usize) -> bool
     ensures { result ≡ duplex_refused rate piece out }
 {
-    if rate != 136 && rate != 168 {
-        return true;
-    }
-    if rate <= piece {
-        return true;
-    }
-    rate < out
-}
-
-fn frame_bit(frame: bool) -> u8
-    ensures { result ≡ bit frame }
-{
-    if frame { 1 } else { 0 }
+    rate != 136 && rate != 168 || rate <= piece || rate < out
 }
 
 // One duplexing of a piece.

@@ -59,10 +59,14 @@ pub extern "C" fn probe_duplexing(
     if object.len() != OBJECT {
         return refusal::NO_ROOM;
     }
-    let before = object_of(&object[..]);
-    let answer = before.duplexing(piece, frame, out);
-    let done = answer.done;
-    let duplex = answer.duplex;
-    put_object(duplex, object);
-    if done { 0 } else { 1 }
+    match object_of(&object[..]).duplexing(piece, frame, out) {
+        Ok(duplex) => {
+            put_object(duplex, object);
+            0
+        }
+        Err(refused) => {
+            put_object(refused.duplex, object);
+            1
+        }
+    }
 }
