@@ -2,6 +2,8 @@ pub mod Frame
 pub mod Strings
 pub mod Seal
 pub mod Open
+pub mod First
+pub mod Laid
 pub mod Masks
 pub mod RoundTrip
 pub mod Draw

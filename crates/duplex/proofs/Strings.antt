@@ -1,12 +1,15 @@
 -- Strings through the duplex: their pieces and blocks, and that each call absorbs the plain sponge's blocks.
 use mathlib.Core.Path.{◌≡◌, sym, ap, ◌∙◌}
 use mathlib.Core.List.{List, [], ◌∷◌, ◌++◌}
-use Prim.Native.Nat.{ℕ, ◌+◌, ◌-◌, ◌≤◌}
+use Prim.Native.Nat.{ℕ, ◌+◌, ◌-◌, ◌≤◌, ◌<◌}
 use native.Mathlib.Numerals.{add-one}
-use lib.ListN.{length, take, drop, length-append}
+use lib.ListN.{length, take, drop, get_or, length-append}
+use lib.Seq.{take_all}
+use lib.Bits.{bit_xor}
+use native.Mathlib.Omega.{arith}
 use Rattle.sponge.specs.Pieces.{piece, blocks_of, before}
 use Rattle.sponge.specs.Sponge.{absorb}
-use Rattle.sponge.proofs.Table.{length-table}
+use Rattle.sponge.proofs.Table.{length-table, table_ext, table-get_or}
 use Rattle.sponge.proofs.Pieces.{length-blocks_of, absorb_more}
 use Rattle.sponge.proofs.Turns.{reached, Ran, ran_last, reached_block}
 use Rattle.duplex.specs.Duplex.{framed, duplexing}
@@ -23,6 +26,12 @@ length_cut R mid last s =
 pub length-xored : (p z : List ℕ) → length (xored p z) ≡ length p
 unfolding xored
 length-xored p z = length-table (length p) _
+
+-- a list as long as p, whose bytes are p's xored with z's
+pub xored_is : (p z o : List ℕ) → length o ≡ length p → ((k : ℕ) → k < length p → get_or o k 0 ≡ bit_xor (get_or p k 0) (get_or z k 0)) → o ≡ xored p z
+unfolding xored
+xored_is p z o l h =
+    rw (← table_ext (length p) (λ k. get_or o k 0) (λ k. bit_xor (get_or p k 0) (get_or z k 0)) h, table-get_or o (length p) (omega arith), take_all (length p) o (omega arith))
 
 -- ---- what is absorbed
 
@@ -41,9 +50,3 @@ module _ (w : ℕ) (f : List ℕ → List ℕ) (R : ℕ) (a : List ℕ) where
       → let k = before (R - 1) (length s) in duplexing w f R (reached (R - 1) (taken w f R mid) s a k) (piece (R - 1) s k) last ≡ absorbed w f R a mid last s
   unfolding absorbed cut front duplexing
   absorbed_turns mid last s = let k = before (R - 1) (length s) in reached_block w f (R - 1) (framed R mid) s a k (framed R last (piece (R - 1) s k))
-
-  pub absorbed_last : (mid last : ℕ) (s : List ℕ) (at : ℕ) (st st' : List ℕ) → Ran (R - 1) (taken w f R mid) s a at st
-      → at ≤ length s - 1 → length s - at ≤ R - 1 → st' ≡ duplexing w f R st (take (length s - at) (drop at s)) last
-      → st' ≡ absorbed w f R a mid last s
-  absorbed_last mid last s at st st' r b l t =
-      ran_last (R - 1) (taken w f R mid) s a (taken w f R last) at st st' r t b l ∙ absorbed_turns mid last s

@@ -25,6 +25,7 @@ pub struct Refused {
 
 impl Duplex {
     // A fresh object. Any rate may be stated: one that is not 136 or 168 is refused at each call.
+    #[tactic(auto, unfolding(sponge::specs::Sponge::zeros))]
     pub fn new(rate: u16) -> Duplex
         ensures { result ≡ (record { lanes = zeros; rate = rate }) }
     {
@@ -58,6 +59,7 @@ fn is_refused(rate: usize, piece: usize, out: usize) -> bool
 }
 
 // One duplexing of a piece.
+#[tactic(auto, unfolding(crate::specs::Duplex::duplexing, crate::specs::Duplex::framed))]
 fn duplexed(a: [u64; 25], piece: &[u8], frame: u8, rate: usize) -> [u64; 25]
     requires { Rate 64 rate × (length piece.now < rate) × (frame < 2) }
     ensures { result ≡ duplexing 64 f1600 rate a piece.now frame }
@@ -66,39 +68,40 @@ fn duplexed(a: [u64; 25], piece: &[u8], frame: u8, rate: usize) -> [u64; 25]
 }
 
 // A string absorbed piece by piece: the frame bit is `mid` but at the last piece, where it is `last`.
+#[tactic(auto, using(crate::proofs::First::absorbed_after, crate::proofs::First::absorbed_only))]
 pub fn absorbed(a: [u64; 25], s: &[u8], mid: u8, last: u8, rate: usize) -> [u64; 25]
     requires { Rate 64 rate × (mid < 2) × (last < 2) }
     ensures { result ≡ absorbed 64 f1600 rate a mid last s.now }
 {
     let most = rate - 1;
     let mut st = a;
-    let mut at = 0;
-    while most < s.len() - at {
-        let e = at + most;
-        let next = duplexed(st, &s[at..e], mid, rate);
+    let mut rest = s;
+    while most < rest.len() {
+        let (piece, after) = rest.split_at(most);
+        let next = duplexed(st, piece, mid, rate);
         st = next;
-        at = e;
+        rest = after;
     }
-    duplexed(st, &s[at..], last, rate)
+    duplexed(st, rest, last, rate)
 }
 
 // A piece xored with the first bytes of a state.
+#[tactic(auto, using(crate::proofs::Strings::xored_is))]
 fn mask_into(a: [u64; 25], p: &[u8], out: &mut [u8])
     requires { (length p.now ≤ 200) × (length out.old ≡ length p.now) }
     ensures { out.new ≡ xored p.now (bytes 64 a) }
 {
     let z = sponge::state_bytes(a);
-    let mut i = 0;
-    while i < p.len() {
-        out[i] = p[i] ^ z[i];
-        i += 1;
+    for (i, x) in out.iter_mut().enumerate() {
+        *x = p[i] ^ z[i];
     }
 }
 
 // One piece of a body sealed: its ciphertext goes to `out`.
 fn seal_piece(a: [u64; 25], p: &[u8], frame: u8, rate: usize, out: &mut [u8]) -> [u64; 25]
     requires { Rate 64 rate × (length p.now < rate) × (frame < 2) × (length out.old ≡ length p.now) }
-    ensures { (result ≡ duplexing 64 f1600 rate a p.now frame) × (out.new ≡ xored p.now (bytes 64 a)) }
+    ensures state { result ≡ duplexing 64 f1600 rate a p.now frame }
+    ensures written { out.new ≡ xored p.now (bytes 64 a) }
 {
     mask_into(a, p, out);
     duplexed(a, p, frame, rate)
@@ -110,22 +113,25 @@ pub fn sealed_into(a: [u64; 25], body: &[u8], rate: usize, out: &mut [u8]) -> [u
     ensures { (result ≡ absorbed 64 f1600 rate a 1 0 body.now) × (out.new ≡ sealed 64 f1600 rate a body.now ++ drop (length body.now) out.old) }
 {
     let most = rate - 1;
-    let mut st = a;
-    let mut at = 0;
-    while most < body.len() - at {
-        let e = at + most;
-        let next = seal_piece(st, &body[at..e], 1, rate, &mut out[at..e]);
-        st = next;
-        at = e;
-    }
     let n = body.len();
-    seal_piece(st, &body[at..n], 0, rate, &mut out[at..n])
+    let mut st = a;
+    let mut unsealed = body;
+    while most < unsealed.len() {
+        let at = n - unsealed.len();
+        let (piece, rest) = unsealed.split_at(most);
+        let next = seal_piece(st, piece, 1, rate, &mut out[at..at + most]);
+        st = next;
+        unsealed = rest;
+    }
+    let at = n - unsealed.len();
+    seal_piece(st, unsealed, 0, rate, &mut out[at..n])
 }
 
 // One piece of a ciphertext opened: its plaintext goes to `out`, and that is what is absorbed.
 fn open_piece(a: [u64; 25], p: &[u8], frame: u8, rate: usize, out: &mut [u8]) -> [u64; 25]
     requires { Rate 64 rate × (length p.now < rate) × (frame < 2) × (length out.old ≡ length p.now) }
-    ensures { (result ≡ duplexing 64 f1600 rate a out.new frame) × (out.new ≡ xored p.now (bytes 64 a)) }
+    ensures state { result ≡ duplexing 64 f1600 rate a out.new frame }
+    ensures written { out.new ≡ xored p.now (bytes 64 a) }
 {
     mask_into(a, p, out);
     duplexed(a, &out[..], frame, rate)
@@ -137,16 +143,18 @@ pub fn opened_into(a: [u64; 25], cipher: &[u8], rate: usize, out: &mut [u8]) -> 
     ensures { (result ≡ absorbed 64 f1600 rate a 1 0 (opened 64 f1600 rate a cipher.now)) × (out.new ≡ opened 64 f1600 rate a cipher.now ++ drop (length cipher.now) out.old) }
 {
     let most = rate - 1;
-    let mut st = a;
-    let mut at = 0;
-    while most < cipher.len() - at {
-        let e = at + most;
-        let next = open_piece(st, &cipher[at..e], 1, rate, &mut out[at..e]);
-        st = next;
-        at = e;
-    }
     let n = cipher.len();
-    open_piece(st, &cipher[at..n], 0, rate, &mut out[at..n])
+    let mut st = a;
+    let mut unopened = cipher;
+    while most < unopened.len() {
+        let at = n - unopened.len();
+        let (piece, rest) = unopened.split_at(most);
+        let next = open_piece(st, piece, 1, rate, &mut out[at..at + most]);
+        st = next;
+        unopened = rest;
+    }
+    let at = n - unopened.len();
+    open_piece(st, unopened, 0, rate, &mut out[at..n])
 }
 
 // One piece of a ciphertext opened in a local buffer.
@@ -155,28 +163,30 @@ fn peek_piece(a: [u64; 25], p: &[u8], frame: u8, rate: usize) -> [u64; 25]
     ensures { result ≡ duplexing 64 f1600 rate a (xored p.now (bytes 64 a)) frame }
 {
     let mut plain = [0u8; 200];
-    let n = p.len();
-    open_piece(a, p, frame, rate, &mut plain[..n])
+    let (front, _) = plain.split_at_mut(p.len());
+    open_piece(a, p, frame, rate, front)
 }
 
 // The state after opening a ciphertext, with nothing written: what a tag is checked against before a body is released.
+#[tactic(auto, using(crate::proofs::First::plain_after, crate::proofs::First::plain_only))]
 pub fn peeked(a: [u64; 25], cipher: &[u8], rate: usize) -> [u64; 25]
     requires { Rate 64 rate }
     ensures { result ≡ absorbed 64 f1600 rate a 1 0 (opened 64 f1600 rate a cipher.now) }
 {
     let most = rate - 1;
     let mut st = a;
-    let mut at = 0;
-    while most < cipher.len() - at {
-        let e = at + most;
-        let next = peek_piece(st, &cipher[at..e], 1, rate);
+    let mut unopened = cipher;
+    while most < unopened.len() {
+        let (piece, rest) = unopened.split_at(most);
+        let next = peek_piece(st, piece, 1, rate);
         st = next;
-        at = e;
+        unopened = rest;
     }
-    peek_piece(st, &cipher[at..], 0, rate)
+    peek_piece(st, unopened, 0, rate)
 }
 
 // A duplexing of the empty piece.
+#[tactic(auto, unfolding(crate::specs::Duplex::blank))]
 fn blanked(a: [u64; 25], rate: usize) -> [u64; 25]
     requires { Rate 64 rate }
     ensures { result ≡ blank 64 f1600 rate a }
@@ -193,11 +203,10 @@ pub fn drawn_into(a: [u64; 25], rate: usize, out: &mut [u8]) -> [u64; 25]
     let mut st = a;
     let mut at = 0;
     while most < out.len() - at {
-        let e = at + most;
-        sponge::put_bytes(st, &mut out[at..e]);
+        sponge::put_bytes(st, &mut out[at..at + most]);
         let next = blanked(st, rate);
         st = next;
-        at = e;
+        at += most;
     }
     sponge::put_bytes(st, &mut out[at..]);
     st

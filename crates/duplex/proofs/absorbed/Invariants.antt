@@ -1,14 +1,13 @@
--- `Ran` says which pieces are absorbed where the loop stands; what is left then is the last piece.
+-- What is left, absorbed from where the loop stands, leaves the state that the whole string leaves.
 use mathlib.Core.Path.{◌≡◌}
-use Prim.Native.Nat.{◌≤◌, ◌-◌}
+use Prim.Native.Nat.{◌-◌}
 use lib.ListN.{length}
 use Rattle.keccak.specs.Rounds.{f1600}
-use Rattle.sponge.proofs.Turns.{Ran}
-use Rattle.duplex.proofs.Strings.{taken}
+use Rattle.duplex.specs.Strings.{absorbed}
 use Rattle.duplex.proofs.absorbed.Given as goal
 
-abbrev pub invariant-loop-at : goal.invariant-loop-at
-invariant-loop-at l = (l.at ≤ length l.s - 1) × (l.most ≡ l.rate - 1) × Ran (l.rate - 1) (taken 64 f1600 l.rate l.mid) l.s l.initial.st l.at l.st
+abbrev pub invariant-loop-rest : goal.invariant-loop-rest
+invariant-loop-rest l = absorbed 64 f1600 l.rate l.st l.mid l.last l.rest ≡ absorbed 64 f1600 l.rate l.fn.a l.mid l.last l.s
 
-abbrev pub decreases-loop-at : goal.decreases-loop-at
-decreases-loop-at l = length l.s - l.at
+abbrev pub decreases-loop-rest : goal.decreases-loop-rest
+decreases-loop-rest l = length l.rest

@@ -1,16 +1,20 @@
--- `Squeezed` says what is written where the loop stands, over any step from state to state: here the blank duplexing.
-use borrow.Author.Rules.{rules}
-use Rattle.sponge.proofs.Turns.{wrote_none}
-use Rattle.sponge.proofs.Squeeze.{given-length, squeezed_more, squeezed_last, squeezed_state}
-use Rattle.duplex.specs.Duplex.{drawn, state_after}
+-- As many bytes as a state gives, and at the end what is left, are drawn and laid where the loop stands.
+use Rattle.std.proofs.Common.{◌-◌, length, arith, rules}
+use Rattle.keccak.specs.Rounds.{f1600}
+use Rattle.duplex.proofs.First.{state_after_more, state_after_none, drawn_more, drawn_only}
+use Rattle.duplex.proofs.Laid.{laid_none_whole, laid_more, laid_last}
 use Rattle.duplex.proofs.drawn_into.Goals as goal
 
 pub loop-out-init : goal.loop-out-init
-loop-out-init c = (search rules, search rules, search rules, wrote_none _ _ _ _ _ (given-length _ _ (search rules)) (search rules) _)
+loop-out-init c = search (rules, laid_none_whole)
 
 pub loop-out-preserved : goal.loop-out-preserved
-loop-out-preserved c = (search rules, search rules, search rules, search (rules, squeezed_more))
+loop-out-preserved c = (
+  omega arith,
+  grind (arith, state_after_more 64 f1600 c.args.rate c.loop-out.st c.requires (length c.args.out.now - c.loop-out.at)),
+  laid_more _ _ _ _ _ c.loop-out.invariant.2 c.loop-out.at _ _ _ _ (omega arith) (grind (arith, drawn_more)) (grind arith) (grind arith),
+)
 
 pub returns : goal.returns
-unfolding drawn state_after
-returns c = (search (rules, squeezed_state), search (rules, squeezed_last))
+returns c =
+    (grind (arith, state_after_none), rw c.loop-out.auto.out (laid_last _ _ _ _ _ c.loop-out.invariant.2 c.loop-out.at _ (omega arith) (grind (arith, drawn_only))))

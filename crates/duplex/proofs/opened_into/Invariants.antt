@@ -1,15 +1,16 @@
--- `Wrote` says what is absorbed and written where the loop stands; what is left then is the last piece.
+-- What is left, opened and absorbed from where the loop stands, leaves the state that the whole ciphertext leaves, and what it gives is
+-- still to be written.
 use mathlib.Core.Path.{◌≡◌}
-use Prim.Native.Nat.{◌≤◌, ◌-◌}
-use lib.ListN.{length}
+use mathlib.Core.List.{◌++◌}
+use lib.ListN.{length, drop}
 use Rattle.keccak.specs.Rounds.{f1600}
-use Rattle.sponge.proofs.Turns.{Wrote}
-use Rattle.duplex.proofs.Seal.{mask}
-use Rattle.duplex.proofs.Open.{taken_unmasked}
+use Rattle.duplex.specs.Strings.{absorbed, opened}
+use Rattle.duplex.proofs.Laid.{Laid}
 use Rattle.duplex.proofs.opened_into.Given as goal
 
-abbrev pub invariant-loop-at : goal.invariant-loop-at
-invariant-loop-at l = (l.at ≤ length l.cipher - 1) × (l.most ≡ l.rate - 1) × (length l.out ≡ length l.initial.out) × Wrote (l.rate - 1) (taken_unmasked 64 f1600 l.rate 1) (mask 64) l.cipher l.initial.st l.initial.out l.at l.st l.out
+abbrev pub invariant-loop-unopened : goal.invariant-loop-unopened
+invariant-loop-unopened l =
+    (absorbed 64 f1600 l.rate l.st 1 0 (opened 64 f1600 l.rate l.st l.unopened) ≡ absorbed 64 f1600 l.rate l.fn.a 1 0 (opened 64 f1600 l.rate l.fn.a l.cipher)) × Laid (length l.cipher) (opened 64 f1600 l.rate l.fn.a l.cipher ++ drop (length l.cipher) l.fn.out) (length l.unopened) (opened 64 f1600 l.rate l.st l.unopened) l.out
 
-abbrev pub decreases-loop-at : goal.decreases-loop-at
-decreases-loop-at l = length l.cipher - l.at
+abbrev pub decreases-loop-unopened : goal.decreases-loop-unopened
+decreases-loop-unopened l = length l.unopened

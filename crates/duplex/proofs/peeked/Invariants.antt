@@ -1,14 +1,13 @@
--- `Ran` says what is absorbed where the loop stands; what is left then is the last piece.
+-- What is left, opened and absorbed from where the loop stands, leaves the state that the whole ciphertext leaves.
 use mathlib.Core.Path.{◌≡◌}
-use Prim.Native.Nat.{◌≤◌, ◌-◌}
 use lib.ListN.{length}
 use Rattle.keccak.specs.Rounds.{f1600}
-use Rattle.sponge.proofs.Turns.{Ran}
-use Rattle.duplex.proofs.Open.{taken_unmasked}
+use Rattle.duplex.specs.Strings.{absorbed, opened}
 use Rattle.duplex.proofs.peeked.Given as goal
 
-abbrev pub invariant-loop-at : goal.invariant-loop-at
-invariant-loop-at l = (l.at ≤ length l.cipher - 1) × (l.most ≡ l.rate - 1) × Ran (l.rate - 1) (taken_unmasked 64 f1600 l.rate 1) l.cipher l.initial.st l.at l.st
+abbrev pub invariant-loop-unopened : goal.invariant-loop-unopened
+invariant-loop-unopened l =
+    absorbed 64 f1600 l.rate l.st 1 0 (opened 64 f1600 l.rate l.st l.unopened) ≡ absorbed 64 f1600 l.rate l.fn.a 1 0 (opened 64 f1600 l.rate l.fn.a l.cipher)
 
-abbrev pub decreases-loop-at : goal.decreases-loop-at
-decreases-loop-at l = length l.cipher - l.at
+abbrev pub decreases-loop-unopened : goal.decreases-loop-unopened
+decreases-loop-unopened l = length l.unopened

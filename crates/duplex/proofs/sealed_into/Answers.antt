@@ -1,18 +1,17 @@
--- `Wrote` says what is absorbed and written where the loop stands; what is left then is the last piece.
-use borrow.Author.Rules.{rules}
-use Rattle.sponge.proofs.Turns.{wrote_none, wrote_more, wrote_last}
-use Rattle.duplex.proofs.Strings.{absorbed_last}
-use Rattle.duplex.proofs.Seal.{mask-length, sealed_written}
+-- The first piece of what is left, and at the end all of it, is sealed and laid where it was in the body.
+use mathlib.Core.Path.{refl}
+use Rattle.std.proofs.Common.{arith}
+use Rattle.keccak.specs.Rounds.{f1600}
+use Rattle.duplex.proofs.First.{absorbed_after, absorbed_only, sealed_after, sealed_only}
+use Rattle.duplex.proofs.Laid.{laid_more, laid_last}
 use Rattle.duplex.proofs.sealed_into.Goals as goal
 
-pub loop-at-init : goal.loop-at-init
-loop-at-init c = (search rules, search rules, search rules, wrote_none _ _ _ _ _ (mask-length _ _) (search rules) _)
-
-pub loop-at-preserved : goal.loop-at-preserved
-loop-at-preserved c = (search rules, search rules, search rules, search (rules, wrote_more))
+pub loop-unsealed-preserved : goal.loop-unsealed-preserved
+loop-unsealed-preserved c = (
+  grind (arith, absorbed_after),
+  laid_more _ _ _ _ _ c.loop-unsealed.invariant.1 _ _ _ _ _ refl (grind (arith, sealed_after)) (grind arith) (grind arith),
+)
 
 pub returns : goal.returns
 returns c =
-    let l = c.loop-at.invariant.3 in
-    let t = c.seal_piece.ensures in
-    (absorbed_last _ _ _ _ _ _ _ _ _ _ l.ran (search rules) (search rules) t.0, rw sealed_written (wrote_last _ _ _ _ _ _ _ _ _ _ l (search rules) (search rules) t.1))
+    (grind (arith, absorbed_only), laid_last _ _ _ _ _ c.loop-unsealed.invariant.1 _ _ refl (grind (arith, sealed_only)))
