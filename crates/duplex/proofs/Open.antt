@@ -2,7 +2,7 @@
 use mathlib.Core.Path.{◌≡◌, refl, ap, subst, ◌∙◌}
 use mathlib.Core.List.{List, [], ◌∷◌, ◌++◌}
 use Prim.Native.Nat.{ℕ, zero, suc, ◌-◌, ◌*◌, ◌≤◌, ◌<◌}
-use native.Mathlib.Nat.{suc-mul, le_refl}
+use native.Mathlib.Nat.{suc-mul}
 use native.Mathlib.Omega.{arith}
 use lib.ListN.{length}
 use Rattle.sponge.specs.Bytes.{bytes}
@@ -11,8 +11,8 @@ use Rattle.sponge.specs.Sponge.{absorb, absorb_block}
 use Rattle.sponge.proofs.Pieces.{before_low, piece_end, blocks_of_front, length-piece, absorb_more}
 use Rattle.sponge.proofs.Turns.{reached, wrote, written, length-wrote, length-written, piece_written}
 use Rattle.duplex.specs.Duplex.{framed, duplexing}
-use Rattle.duplex.specs.Strings.{blocks, front, xored, absorbed, unmasked, opened}
-use Rattle.duplex.proofs.Strings.{length-xored, taken, absorbed_turns}
+use Rattle.duplex.specs.Strings.{blocks, front, xored, unmasked, opened}
+use Rattle.duplex.proofs.Strings.{length-xored, taken}
 use Rattle.duplex.proofs.Seal.{mask, mask-length}
 
 -- the state after a turn that unmasks the piece p and takes it with the frame bit b
@@ -76,11 +76,3 @@ module _ (w : ℕ) (f : List ℕ → List ℕ) (R : ℕ) (a c : List ℕ) where
   unfolding reached
   opening_reached zero h = refl
   opening_reached (suc k) h = rw (opening_piece k (omega arith), opening_reached k (omega arith))
-
-  -- the last piece
-  pub opened_turns : 1 < R
-      → let k = before (R - 1) (length c) in taken_unmasked w f R 0 (reached (R - 1) (taken_unmasked w f R 1) c a k) (piece (R - 1) c k) ≡ absorbed w f R a 1 0 (opened w f R a c)
-  opened_turns h =
-      let k = before (R - 1) (length c) in
-      rw (← opening_piece k (le_refl k), opening_reached k (le_refl k))
-      (rw (length-opened h) at (absorbed_turns w f R a 1 0 (opened w f R a c)))

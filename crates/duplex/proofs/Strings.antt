@@ -1,9 +1,9 @@
 -- Strings through the duplex: their pieces and blocks, and that each call absorbs the plain sponge's blocks.
 use mathlib.Core.Path.{◌≡◌, sym, ap, ◌∙◌}
 use mathlib.Core.List.{List, [], ◌∷◌, ◌++◌}
-use Prim.Native.Nat.{ℕ, ◌+◌, ◌-◌, ◌≤◌, ◌<◌}
+use Prim.Native.Nat.{ℕ, ◌+◌, ◌-◌, ◌<◌}
 use native.Mathlib.Numerals.{add-one}
-use lib.ListN.{length, take, drop, get_or, length-append}
+use lib.ListN.{length, get_or, length-append}
 use lib.Seq.{take_all}
 use lib.Bits.{bit_xor}
 use native.Mathlib.Omega.{arith}
@@ -11,7 +11,7 @@ use Rattle.sponge.specs.Pieces.{piece, blocks_of, before}
 use Rattle.sponge.specs.Sponge.{absorb}
 use Rattle.sponge.proofs.Table.{length-table, table_ext, table-get_or}
 use Rattle.sponge.proofs.Pieces.{length-blocks_of, absorb_more}
-use Rattle.sponge.proofs.Turns.{reached, Ran, ran_last, reached_block}
+use Rattle.sponge.proofs.Turns.{reached, reached_block}
 use Rattle.duplex.specs.Duplex.{framed, duplexing}
 use Rattle.duplex.specs.Strings.{blocks, front, cut, xored, absorbed}
 

@@ -37,6 +37,7 @@ impl Duplex {
 
     // One duplexing: a piece of at most rate - 1 bytes goes in, and the lent slice, at most rate bytes, is filled with output.
     // It answers with the object after it.
+    #[tactic(auto, using(crate::proofs::Object::duplex_passes, crate::proofs::Object::refusing, crate::proofs::Object::doing))]
     pub fn duplexing(self, piece: &[u8], frame: bool, out: &mut [u8]) -> Result<Duplex, Refused>
         ensures { seen (outcome result) out.new ≡ duplexes self piece.now frame out.old }
     {

@@ -1,6 +1,5 @@
 -- What is left, absorbed from where the loop stands, leaves the state that the whole string leaves.
 use mathlib.Core.Path.{◌≡◌}
-use Prim.Native.Nat.{◌-◌}
 use lib.ListN.{length}
 use Rattle.keccak.specs.Rounds.{f1600}
 use Rattle.duplex.specs.Strings.{absorbed}

@@ -1,7 +1,6 @@
 -- The first piece of what is left, and at the end all of it, is opened and laid where it was in the ciphertext.
 use mathlib.Core.Path.{refl}
 use Rattle.std.proofs.Common.{arith}
-use Rattle.keccak.specs.Rounds.{f1600}
 use Rattle.duplex.proofs.First.{plain_after, plain_only, opened_after, opened_only}
 use Rattle.duplex.proofs.Laid.{laid_more, laid_last}
 use Rattle.duplex.proofs.opened_into.Goals as goal

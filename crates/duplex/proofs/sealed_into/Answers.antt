@@ -1,7 +1,6 @@
 -- The first piece of what is left, and at the end all of it, is sealed and laid where it was in the body.
 use mathlib.Core.Path.{refl}
 use Rattle.std.proofs.Common.{arith}
-use Rattle.keccak.specs.Rounds.{f1600}
 use Rattle.duplex.proofs.First.{absorbed_after, absorbed_only, sealed_after, sealed_only}
 use Rattle.duplex.proofs.Laid.{laid_more, laid_last}
 use Rattle.duplex.proofs.sealed_into.Goals as goal
