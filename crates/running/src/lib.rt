@@ -2,58 +2,88 @@
 #![tactic(auto)]
 
 ghost use Rattle.std.specs.Prelude.{◌≡◌};
-ghost use Rattle.spongewrap.specs.Sessions.{seen, wraps, unwraps};
+ghost use Rattle.spongewrap.specs.Sessions.{answer_of, seen, wraps, unwraps};
 ghost use Rattle.spongewrap.specs.Desk.{desk};
+ghost use Rattle.running.specs.Answers.{left};
 
-use spongewrap::{Answer, Session};
+use refusal::Refusal;
+use spongewrap::{Refused, Session};
 
-// Seals a pair and leaves the next session behind the reference. The answer is 0 or a refusal's number.
-pub fn wrap_in_place(s: &mut Session, header: &[u8], body: &[u8], out: &mut [u8]) -> u8
-    ensures { seen (record { number = result; session = s.new }) out.new ≡ wraps desk s.old header.now body.now out.old }
+// Puts the session of a call's answer behind the reference: the next one, or the one that a refusal hands back.
+fn store(answer: Result<Session, Refused>, s: &mut Session) -> Result<(), Refusal>
+    ensures { left result s.new ≡ answer_of answer }
 {
-    let taken = *s;
-    let done = spongewrap::wrap(taken, header, body, out);
-    *s = done.session;
-    done.number
+    match answer {
+        Ok(next) => {
+            *s = next;
+            Ok(())
+        }
+        Err(refused) => {
+            *s = refused.session;
+            Err(refused.refusal)
+        }
+    }
 }
 
-// Opens a pair and leaves the next session behind the reference. The answer is 0 or a refusal's number.
+// Seals a pair and leaves the next session behind the reference. A refusal leaves the session as it was.
+pub fn wrap_in_place(
+    s: &mut Session,
+    header: &[u8],
+    body: &[u8],
+    out: &mut [u8],
+) -> Result<(), Refusal>
+    ensures { seen (left result s.new) out.new ≡ wraps desk s.old header.now body.now out.old }
+{
+    store(spongewrap::wrap(*s, header, body, out), s)
+}
+
+// Opens a pair and leaves the next session behind the reference. A refusal leaves the session as it was.
 pub fn unwrap_in_place(
     s: &mut Session,
     header: &[u8],
     cipher: &[u8],
     tag: &[u8],
     out: &mut [u8],
-) -> u8
-    ensures { seen (record { number = result; session = s.new }) out.new ≡ unwraps desk s.old header.now cipher.now tag.now out.old }
+) -> Result<(), Refusal>
+    ensures { seen (left result s.new) out.new ≡ unwraps desk s.old header.now cipher.now tag.now out.old }
 {
-    let taken = *s;
-    let done = spongewrap::unwrap(taken, header, cipher, tag, out);
-    *s = done.session;
-    done.number
+    store(spongewrap::unwrap(*s, header, cipher, tag, out), s)
 }
 
-// The same for a caller that holds its session as a value: it is put where `wrap_in_place` can advance it, and the advanced one is handed
-// back.
-pub fn wrap_lent(s: Session, header: &[u8], body: &[u8], out: &mut [u8]) -> Answer
-    ensures { seen result out.new ≡ wraps desk s header.now body.now out.old }
+// The answer of a call in place as one that hands its session back.
+fn handed_back(answer: Result<(), Refusal>, session: Session) -> Result<Session, Refused>
+    ensures { answer_of result ≡ left answer session }
 {
-    let mut running = s;
-    let number = wrap_in_place(&mut running, header, body, out);
-    Answer {
-        number,
-        session: running,
+    match answer {
+        Ok(()) => Ok(session),
+        Err(refusal) => Err(Refused { refusal, session }),
     }
 }
 
-// `unwrap_in_place` for a caller that holds its session as a value.
-pub fn unwrap_lent(s: Session, header: &[u8], cipher: &[u8], tag: &[u8], out: &mut [u8]) -> Answer
-    ensures { seen result out.new ≡ unwraps desk s header.now cipher.now tag.now out.old }
+// The same for a caller that holds its session as a value: `wrap_in_place` advances it where it stands, and it is handed back.
+pub fn wrap_lent(
+    mut s: Session,
+    header: &[u8],
+    body: &[u8],
+    out: &mut [u8],
+) -> Result<Session, Refused>
+    ensures { seen (answer_of result) out.new ≡ wraps desk s header.now body.now out.old }
 {
-    let mut running = s;
-    let number = unwrap_in_place(&mut running, header, cipher, tag, out);
-    Answer {
-        number,
-        session: running,
-    }
+    let answer = wrap_in_place(&mut s, header, body, out);
+    handed_back(answer, s)
+}
+
+// `unwrap_in_place` for a caller that holds its session as a value. The twins stay two: one function over a closure would have to say what the
+// closure writes to the lent output, and it is no plainer.
+pub fn unwrap_lent(
+    mut s: Session,
+    header: &[u8],
+    cipher: &[u8],
+    tag: &[u8],
+    out: &mut [u8],
+) -> Result<Session, Refused>
+    ensures { seen (answer_of result) out.new ≡ unwraps desk s header.now cipher.now tag.now out.old }
+{
+    let answer = unwrap_in_place(&mut s, header, cipher, tag, out);
+    handed_back(answer, s)
 }
