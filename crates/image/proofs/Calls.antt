@@ -1,18 +1,18 @@
 -- A call over an image by its outcome: an image of another length, or the session's own call, settled.
-use mathlib.Core.Path.{◌≡◌, refl, ap, ◌∙◌}
+use mathlib.Core.Path.{◌≡◌, refl, ap}
 use mathlib.Core.List.{List, [], ◌++◌}
 use mathlib.Core.Bool.{Bool, true, false, not}
 use Prim.Native.Nat.{ℕ, ◌≤◌}
 use native.Mathlib.Omega.{arith}
 use lib.Dec.{eqb}
 use lib.ListN.{length, take, drop}
+use Rattle.std.specs.Array.{IsWholeChunk}
 use Rattle.refusal.specs.Rows.{pick, by}
 use Rattle.refusal.proofs.Rows.{taken, passed, kept}
 use Rattle.refusal.proofs.Tests.{other, alike}
 use Rattle.spongewrap.specs.Desk.{desk}
 use Rattle.spongewrap.specs.Sessions as sessions
-use Rattle.spongewrap.specs.Sessions.{opens, wraps, unwraps}
-use Rattle.spongewrap.specs.declared.Answer.{Answer}
+use Rattle.spongewrap.specs.Sessions.{Answer, opens, wraps, unwraps}
 use Rattle.spongewrap.specs.declared.Session.{Session}
 use Rattle.spongewrap.proofs.Theorems as theorems
 use Rattle.image.specs.Image.{image_length, image_of, session_of}
@@ -27,24 +27,12 @@ module _ (n : ℕ) (b o : List ℕ) where
   pub right_length : (u v : Seen) → length b ≡ n → u ≡ v → u ≡ sized n b o v
   right_length u v h e = passed (seen 6 b o) (alike (length b) n h) e
 
-called : (i o : List ℕ) (w : sessions.Seen) → length i ≡ image_length → (a : Answer) (o' : List ℕ) → sessions.seen a o' ≡ w → (n : ℕ) (i' : List ℕ)
-    → n ≡ a.number → i' ≡ by a.number i (image_of a.session) → seen n i' o' ≡ sized image_length i o (over_image i w)
-called i o w h a o' e n i' f g = right_length image_length i o (seen n i' o') (over_image i w) h (rw (← e, f, g))
-
-pub opened_is : (i i' : List ℕ) (n : ℕ) (a : Answer) (key : List ℕ) (R t : ℕ) → length i ≡ image_length → a ≡ opens desk key R t
-    → (n ≡ a.number) × (i' ≡ by a.number i (image_of a.session)) → seen n i' [] ≡ opens_image key R t i
-unfolding opens_image
-opened_is i i' n a key R t h e f = called i [] _ h a [] (rw e) n i' f.0 f.1
-
-pub wrapped_is : (i i' : List ℕ) (n : ℕ) (a : Answer) (s : Session) (k b o o' : List ℕ) → length i ≡ image_length → s ≡ session_of i
-    → sessions.seen a o' ≡ wraps desk s k b o → (n ≡ a.number) × (i' ≡ by a.number i (image_of a.session)) → seen n i' o' ≡ wraps_image i k b o
-unfolding wraps_image
-wrapped_is i i' n a s k b o o' h z e f = called i o _ h a o' (e ∙ rw z) n i' f.0 f.1
-
-pub unwrapped_is : (i i' : List ℕ) (n : ℕ) (a : Answer) (s : Session) (k c t o o' : List ℕ) → length i ≡ image_length → s ≡ session_of i
-    → sessions.seen a o' ≡ unwraps desk s k c t o → (n ≡ a.number) × (i' ≡ by a.number i (image_of a.session)) → seen n i' o' ≡ unwraps_image i k c t o
-unfolding unwraps_image
-unwrapped_is i i' n a s k c t o o' h z e f = called i o _ h a o' (e ∙ rw z) n i' f.0 f.1
+-- y is the image i as an array. A call on its session that answers a leaves o' of the output o; then a is stored in the image
+module _ (i y o : List ℕ) (whole : IsWholeChunk i y image_length) (a : Answer) (o' : List ℕ) where
+  pub called : (w : Session → sessions.Seen) (s : Session) → s ≡ session_of y → sessions.seen a o' ≡ w s → (n : ℕ) (i' : List ℕ)
+      → n ≡ a.number → i' ≡ by a.number y (image_of a.session) → seen n i' o' ≡ sized image_length i o (over_image i (w (session_of i)))
+  called w s z e n i' f g =
+      right_length image_length i o (seen n i' o') (over_image i (w (session_of i))) whole.long (rw (← whole.same, ← z, ← e, f, g))
 
 -- ---- a refused call leaves image and output
 

@@ -1,20 +1,13 @@
 -- A refusal leaves the image; else it is the new session's.
-use borrow.Author.Rules.{rules}
-use mathlib.Core.Path.{◌≡◌, sym, ◌∙◌}
-use mathlib.Core.List.{List}
-use Prim.Native.Nat.{ℕ}
+use mathlib.Core.Path.{sym}
 use Rattle.refusal.specs.Rows.{by}
-use Rattle.refusal.proofs.Rows.{kept, made}
+use Rattle.refusal.proofs.Rows.{kept}
+use Rattle.refusal.proofs.Numbers.{numbered_refusal}
 use Rattle.image.proofs.store_answer.Goals as goal
 
-stays : (n : ℕ) (i j : List ℕ) → (n ≡ 0 → ⊥) → i ≡ by n i j
-stays n i j d = sym (kept n i j d)
+pub returns-in_err-answer-clause-image : goal.returns-in_err-answer-clause-image
+returns-in_err-answer-clause-image c = rw c.in_err-answer.was (sym (kept _ _ _ (numbered_refusal _)))
 
-comes : (n : ℕ) (i j x : List ℕ) → n ≡ 0 → x ≡ j → x ≡ by n i j
-comes n i j x z e = e ∙ sym (made n i j z)
-
-pub returns-then-number-ne0 : goal.returns-then-number-ne0
-returns-then-number-ne0 c = search (rules, stays)
-
-pub returns : goal.returns
-returns c = search (rules, comes)
+pub returns-clause-image : goal.returns-clause-image
+unfolding by
+returns-clause-image c = rw c.in_ok-answer.was c.put_session.ensures
