@@ -21,8 +21,8 @@ use Rattle.image.specs.Calls.{Seen, seen, sized, over_image, opens_image, wraps_
 -- ---- for the proofs of the calls
 
 module _ (n : ℕ) (b o : List ℕ) where
-  pub other_length : (v : Seen) → (length b ≡ n → ⊥) → seen 6 b o ≡ sized n b o v
-  other_length v h = taken (seen 6 b o) v (other (length b) n h)
+  pub other_length : (v : Seen) (k : ℕ) → (length b ≡ n → ⊥) → k ≡ 6 → seen k b o ≡ sized n b o v
+  other_length v k h e = rw e (taken (seen 6 b o) v (other (length b) n h))
 
   pub right_length : (u v : Seen) → length b ≡ n → u ≡ v → u ≡ sized n b o v
   right_length u v h e = passed (seen 6 b o) (alike (length b) n h) e

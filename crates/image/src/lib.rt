@@ -24,7 +24,7 @@ const PAIRS_PLACE: usize = 204;
 
 const CALLS_PLACE: usize = 208;
 
-// The session that an image holds.
+// The session that an image holds. It is no `From`: neither a session nor an array is this crate's own type.
 pub fn session_of(image: &[u8; LENGTH]) -> Session
     ensures { result ≡ session_of image.now }
 {
@@ -61,9 +61,7 @@ fn store_answer(answer: Result<Session, Refused>, image: &mut [u8; LENGTH]) -> R
 pub fn open(key: &[u8], rate: u16, tag: u16, image: &mut [u8]) -> Result<(), Refusal>
     ensures { seen (told result) image.new [] ≡ opens_image key.now rate tag image.old }
 {
-    let Some(image) = image.as_mut_array::<LENGTH>() else {
-        return Err(Refusal::NoRoom);
-    };
+    let image = image.as_mut_array::<LENGTH>().ok_or(Refusal::NoRoom)?;
     store_answer(spongewrap::open(key, rate, tag), image)
 }
 
@@ -71,9 +69,7 @@ pub fn open(key: &[u8], rate: u16, tag: u16, image: &mut [u8]) -> Result<(), Ref
 pub fn wrap(image: &mut [u8], header: &[u8], body: &[u8], out: &mut [u8]) -> Result<(), Refusal>
     ensures { seen (told result) image.new out.new ≡ wraps_image image.old header.now body.now out.old }
 {
-    let Some(image) = image.as_mut_array::<LENGTH>() else {
-        return Err(Refusal::NoRoom);
-    };
+    let image = image.as_mut_array::<LENGTH>().ok_or(Refusal::NoRoom)?;
     store_answer(
         spongewrap::wrap(session_of(image), header, body, out),
         image,
@@ -90,9 +86,7 @@ pub fn unwrap(
 ) -> Result<(), Refusal>
     ensures { seen (told result) image.new body.new ≡ unwraps_image image.old header.now cipher.now tag.now body.old }
 {
-    let Some(image) = image.as_mut_array::<LENGTH>() else {
-        return Err(Refusal::NoRoom);
-    };
+    let image = image.as_mut_array::<LENGTH>().ok_or(Refusal::NoRoom)?;
     store_answer(
         spongewrap::unwrap(session_of(image), header, cipher, tag, body),
         image,
