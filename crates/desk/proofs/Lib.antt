@@ -1,2 +1,1 @@
-pub mod Hashing
 pub mod Outcomes

@@ -2,8 +2,11 @@
 #![tactic(auto)]
 
 ghost use Rattle.std.specs.Prelude.{◌≡◌, []};
+ghost use Rattle.refusal.specs.Numbers.{told};
 ghost use Rattle.image.specs.Calls.{seen, opens_image, wraps_image, unwraps_image};
 ghost use Rattle.desk.specs.Desk.{desk_rate, desk_tag, hashed, hashes};
+
+use refusal::Refusal;
 
 // The settings of an open that takes none. They are the desk's own: images on disk hold them.
 const RATE: u16 = 136;
@@ -18,7 +21,7 @@ const DIGEST: usize = 32;
 pub extern "C" fn feefledown_open(key: &[u8], image: &mut [u8]) -> u8
     ensures { seen result image.new [] ≡ opens_image key.now desk_rate desk_tag image.old }
 {
-    image::open(key, RATE, TAG, image)
+    refusal::number(image::open(key, RATE, TAG, image))
 }
 
 // Seals a pair: SpongeWrap's wrap over an image.
@@ -31,7 +34,7 @@ pub extern "C" fn feefledown_wrap(
 ) -> u8
     ensures { seen result image.new out.new ≡ wraps_image image.old header.now body.now out.old }
 {
-    image::wrap(image, header, body, out)
+    refusal::number(image::wrap(image, header, body, out))
 }
 
 // Opens a pair: SpongeWrap's unwrap over an image.
@@ -45,18 +48,22 @@ pub extern "C" fn feefledown_unwrap(
 ) -> u8
     ensures { seen result image.new body.new ≡ unwraps_image image.old header.now ciphertext.now tag.now body.old }
 {
-    image::unwrap(image, header, ciphertext, tag, body)
+    refusal::number(image::unwrap(image, header, ciphertext, tag, body))
 }
 
 // SHA3-256 (FIPS 202, section 6.1) into the first 32 bytes of a lent buffer.
+fn put_hash(message: &[u8], digest: &mut [u8]) -> Result<(), Refusal>
+    ensures { hashed (told result) digest.new ≡ hashes message.now digest.old }
+{
+    let first = digest.first_chunk_mut::<DIGEST>().ok_or(Refusal::NoRoom)?;
+    *first = sponge::sha3_256(message);
+    Ok(())
+}
+
+// The same, answered by its number.
 #[unsafe(no_mangle)]
 pub extern "C" fn feefledown_sha3_256(message: &[u8], digest: &mut [u8]) -> u8
     ensures { hashed result digest.new ≡ hashes message.now digest.old }
 {
-    if digest.len() < DIGEST {
-        return refusal::NO_ROOM;
-    }
-    let made = sponge::sha3_256(message);
-    fields::put_string(digest, 0, &made);
-    0
+    refusal::number(put_hash(message, digest))
 }
