@@ -15,9 +15,8 @@ use Rattle.spongewrap.specs.Desk.{desk}
 use Rattle.spongewrap.specs.SpongeWrap.{headed}
 use Rattle.refusal.specs.Rows.{pick}
 use Rattle.spongewrap.specs.Refusals.{open_refusal, wrap_refusal, unwrap_refusal}
-use Rattle.spongewrap.specs.Sessions.{opens, cost, advanced, next, sealing, tag_of, recovered, Seen, wraps, unwraps}
+use Rattle.spongewrap.specs.Sessions.{Answer, opens, cost, advanced, next, sealing, tag_of, recovered, Seen, wraps, unwraps}
 use Rattle.spongewrap.specs.declared.Session.{Session}
-use Rattle.spongewrap.specs.declared.Answer.{Answer}
 use Rattle.spongewrap.proofs.Theorems.{wrap_number, unwrap_number, wrapped_is, unwrapped_is, unwrap_accepts_exactly, wrong_tag_releases_nothing, text_is, mark_is}
 use Rattle.spongewrap.proofs.Passed.{unwrap_fits}
 use Rattle.spongewrap.proofs.Settle.{length-tag_of}

@@ -11,7 +11,8 @@ use Rattle.duplex.specs.Duplex.{framed}
 use Rattle.duplex.specs.Strings.{blocks}
 use Rattle.spongewrap.specs.Desk.{desk}
 use Rattle.refusal.specs.Rows.{pick, by}
-use Rattle.spongewrap.specs.Refusals.{most_size, most_header, most_body, most_pairs, open_refusal, wrap_refusal}
+use Rattle.refusal.specs.Limits.{most_size}
+use Rattle.spongewrap.specs.Refusals.{most_header, most_body, most_pairs, open_refusal, wrap_refusal}
 use Rattle.spongewrap.specs.Sessions.{opens, cost, advanced, next, settled, wraps}
 use Rattle.spongewrap.specs.declared.Session.{Session}
 
