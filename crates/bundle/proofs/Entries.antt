@@ -1,17 +1,19 @@
 -- The entry rules, and the walk over entries, check by check.
 use Prim.Native.Nat.{ℕ, zero, suc, ◌+◌, ◌-◌, ◌≤◌, ◌<◌}
 use native.Mathlib.Omega.{arith}
-use mathlib.Core.Path.{◌≡◌, refl, sym, ◌∙◌}
+use mathlib.Core.Path.{◌≡◌, refl, sym, ap, ◌∙◌}
 use mathlib.Core.List.{List, [], ◌∷◌}
 use mathlib.Core.Bool.{Bool, true, false}
 use lib.ListN.{length, get_or}
 use lib.Dec.{ltb}
 use borrow.Author.Tests.{lt-ltb, le-ltb, ltb-false, eq-eqb, ne_eqb}
+use Rattle.std.specs.Prelude.{Result, Ok, Err}
 use Rattle.fields.specs.Numbers.{number_at}
 use Rattle.refusal.specs.Rows.{by, pick}
 use Rattle.spongewrap.specs.Refusals.{most_pairs, most_body, long_body}
 use Rattle.bundle.specs.declared.Entry.{Entry}
-use Rattle.bundle.specs.declared.Entry.TheVariants.{Whole, Short, Large, Past}
+use Rattle.bundle.specs.declared.NoEntry.{NoEntry}
+use Rattle.bundle.specs.declared.NoEntry.TheVariants.{Short, Large, Past}
 use Rattle.bundle.specs.Format.{Version, most, header_length, body_length, next_at, WholeAt, entry_at}
 use Rattle.bundle.specs.Answers.{Told, refused, accepted, ◌or_else◌, entry_told}
 use Rattle.bundle.specs.Survey.{unlabelled, last, walk_entries, entries_from, surveys}
@@ -21,65 +23,47 @@ use Rattle.bundle.proofs.Tables.{stops_at, goes}
 -- ---- the rules
 
 module _ (v : Version) (b : List ℕ) (place : ℕ) where
-  pub entry_short : length b - place < 6 → Short ≡ entry_at v b place
+  pub entry_short : length b - place < 6 → Err Short ≡ entry_at v b place
   unfolding entry_at pick
   entry_short h = rw (lt-ltb (length b - place) 6 h)
 
   module _ (some : 6 ≤ length b - place) where
-    pub entry_large : most_body < body_length b place → Large ≡ entry_at v b place
+    pub entry_large : most_body < body_length b place → Err Large ≡ entry_at v b place
     unfolding entry_at pick
     entry_large h = rw (le-ltb (length b - place) 6 some, lt-ltb most_body (body_length b place) h)
 
-    pub entry_past : body_length b place ≤ most_body → length b < next_at v b place → Past ≡ entry_at v b place
+    pub entry_past : body_length b place ≤ most_body → length b < next_at v b place → Err Past ≡ entry_at v b place
     unfolding entry_at pick
     entry_past h l =
         rw (le-ltb (length b - place) 6 some, le-ltb most_body (body_length b place) h, lt-ltb (length b) (next_at v b place) l)
 
-pub entry_whole : {v : Version} {b : List ℕ} {place h m n : ℕ} → WholeAt v b place h m n → Whole h m n ≡ entry_at v b place
+pub entry_whole : {v : Version} {b : List ℕ} {place : ℕ} {e : Entry} → WholeAt v b place e → Ok e ≡ entry_at v b place
 unfolding entry_at pick
-entry_whole {v} {b} {place} w =
-    rw (w.is_header, w.is_body, w.is_next, le-ltb (length b - place) 6 (omega arith), le-ltb most_body (body_length b place) (omega arith), le-ltb (length b) (next_at v b place) (omega arith))
+entry_whole {v} {b} {place} {e} w =
+    let parts : ◌≡◌ {A = Entry} (record { header = e.header; body = e.body; next = e.next }) (record { header = header_length b place; body = body_length b place; next = next_at v b place }) = cc in
+    rw (le-ltb (length b - place) 6 (omega arith), le-ltb most_body (body_length b place) (omega arith), le-ltb (length b) (next_at v b place) (omega arith)) (ap Ok parts)
 
 -- what a whole entry tells
-unless : (t : Bool) (x e : Entry) (h m n : ℕ) → pick t x e ≡ Whole h m n → (x ≡ Whole h m n → ⊥) → (t ≡ false) × (e ≡ Whole h m n)
+unless : (t : Bool) (x : NoEntry) (r : Result Entry NoEntry) (e : Entry) → pick t (Err x) r ≡ Ok e → (t ≡ false) × (r ≡ Ok e)
 unfolding pick
-unless false x e h m n q d = (refl, q)
-unless true x e h m n q d = absurd (d q)
+unless false x r e q = (refl, q)
+unless true x r e q = cc
 
-pub whole_at : (v : Version) (b : List ℕ) (place h m n : ℕ) → entry_at v b place ≡ Whole h m n → WholeAt v b place h m n
+pub whole_at : (v : Version) (b : List ℕ) (place : ℕ) (e : Entry) → entry_at v b place ≡ Ok e → WholeAt v b place e
 unfolding entry_at
-whole_at v b place h m n e =
-    let p = unless (ltb (length b - place) 6) Short _ h m n e (λ z. let o : ◌≡◌ {A = ℕ} 0 1 = cc in omega arith) in
-    let q = unless (long_body (body_length b place)) Large _ h m n p.1 (λ z. let o : ◌≡◌ {A = ℕ} 0 1 = cc in omega arith) in
-    let r = unless (ltb (length b) (next_at v b place)) Past _ h m n q.1 (λ z. let o : ◌≡◌ {A = ℕ} 0 1 = cc in omega arith) in
-    let eh : header_length b place ≡ h = cc in
-    let em : body_length b place ≡ m = cc in
-    let en : next_at v b place ≡ n = cc in
+whole_at v b place e q =
+    let p = unless (ltb (length b - place) 6) Short _ e q in
+    let q = unless (long_body (body_length b place)) Large _ e p.1 in
+    let r = unless (ltb (length b) (next_at v b place)) Past _ e q.1 in
+    let parts : (record { header = header_length b place; body = body_length b place; next = next_at v b place }) ≡ e = cc in
     let l : body_length b place ≤ most_body = ltb-false most_body (body_length b place) q.0 in
     let x : next_at v b place ≤ length b = ltb-false (length b) (next_at v b place) r.0 in
-    record { is_header = sym eh; is_body = sym em; is_next = sym en; small = omega arith; ends = omega arith }
+    rw (← parts) (record { is_header = refl; is_body = refl; is_next = refl; small = l; ends = x })
 
--- an entry that is no `Whole` one is refused
-pub not_whole : (e : Entry) (place : ℕ) → ((h m n : ℕ) → e ≡ Whole h m n → ⊥) → (entry_told e place).number ≡ 0 → ⊥
-not_whole (Whole h m n) place k z = k h m n refl
-not_whole Short place k z = omega arith
-not_whole Large place k z = omega arith
-not_whole Past place k z = omega arith
-
-pub not_labelled : (e : Entry) → ((entry_told e 0).number ≡ 0 → ⊥) → true ≡ unlabelled e
-unfolding unlabelled
-not_labelled (Whole h m n) d = absurd (d refl)
-not_labelled Short d = refl
-not_labelled Large d = refl
-not_labelled Past d = refl
-
-pub entry_bad : (e f : Entry) (place n p : ℕ) (q : Told) → e ≡ f → ((entry_told e place).number ≡ 0 → ⊥) → n ≡ (entry_told e place).number
-    → p ≡ (entry_told e place).place → refused n p ≡ (entry_told f place or_else q)
+-- where none is whole
+pub entry_bad : (x : NoEntry) (r : Result Entry NoEntry) (place : ℕ) (t q : Told) → Err x ≡ r → t ≡ entry_told (Err x) place → t ≡ (entry_told r place or_else q)
 unfolding by
-entry_bad (Whole h m x) f place n p q g d en ep = absurd (d refl)
-entry_bad Short f place n p q g d en ep = rw (← g, en, ep)
-entry_bad Large f place n p q g d en ep = rw (← g, en, ep)
-entry_bad Past f place n p q g d en ep = rw (← g, en, ep)
+entry_bad x r place t q e f = rw (← e) f
 
 -- ---- the walk: at the end; at entry 65,535; at an entry
 
@@ -103,17 +87,16 @@ module _ (v : Version) (b : List ℕ) (place k : ℕ) where
         let n : most_pairs - k ≡ suc (most_pairs - (k + 1)) = omega arith in
         rw (n, lt-ltb place (length b) some)
 
-    pub walk_bad : k < most_pairs → (e : Entry) (n p : ℕ) → e ≡ entry_at v b place → ((entry_told e place).number ≡ 0 → ⊥)
-        → n ≡ (entry_told e place).number → p ≡ (entry_told e place).place → refused n p ≡ entries_from v b place k
-    walk_bad l e n p g d en ep = entry_bad e _ place n p _ g d en ep ∙ sym (walk_on l)
+    pub walk_bad : k < most_pairs → (x : NoEntry) (t : Told) → Err x ≡ entry_at v b place → t ≡ entry_told (Err x) place → t ≡ entries_from v b place k
+    walk_bad l x t e f = entry_bad x _ place t _ e f ∙ sym (walk_on l)
 
-    pub walk_next : k < most_pairs → (h m n : ℕ) → entry_at v b place ≡ Whole h m n → entries_from v b place k ≡ entries_from v b n (k + 1)
+    pub walk_next : k < most_pairs → (e : Entry) → entry_at v b place ≡ Ok e → entries_from v b place k ≡ entries_from v b e.next (k + 1)
     unfolding by
-    walk_next l h m n e = walk_on l ∙ rw (e, (whole_at v b place h m n e).is_next)
+    walk_next l e q = walk_on l ∙ rw (q, (whole_at v b place e q).is_next)
 
 -- ---- the last check, by what was found of entry zero
 
-module _ (v : Version) (b : List ℕ) (k : ℕ) (e : Entry) (t : Bool) (g : e ≡ entry_at v b 5) (u : t ≡ unlabelled e) where
+module _ (v : Version) (b : List ℕ) (k : ℕ) (e : Result Entry NoEntry) (t : Bool) (g : e ≡ entry_at v b 5) (u : t ≡ unlabelled e) where
   pub last_bad : t ≡ true → refused 11 5 ≡ last v b k
   unfolding last
   last_bad h = let z : unlabelled (entry_at v b 5) ≡ true = cc in stops_at 11 5 _ (taken 11 0 z) refl

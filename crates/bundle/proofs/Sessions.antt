@@ -8,6 +8,7 @@ use lib.ListN.{length, get_or, replicate, length-replicate}
 use borrow.Author.Tests.{le-ltb}
 use mir.Val.{Fits}
 use mir.Syntax.{w8}
+use Rattle.std.specs.Prelude.{Result, Ok, Err}
 use Rattle.refusal.specs.Rows.{first, by}
 use Rattle.refusal.proofs.Rows.{passed, clear_first}
 use Rattle.compare.proofs.Same.{same_is}
@@ -19,7 +20,7 @@ use Rattle.spongewrap.specs.declared.Session.{Session}
 use Rattle.spongewrap.proofs.Theorems.{wrap_number, wrapped_is}
 use Rattle.spongewrap.proofs.Histories.{history_tells}
 use Rattle.bundle.specs.declared.Entry.{Entry}
-use Rattle.bundle.specs.declared.Entry.TheVariants.{Whole, Short, Large, Past}
+use Rattle.bundle.specs.declared.NoEntry.{NoEntry}
 use Rattle.bundle.specs.Format.{Version, bundle_rate, body_length, header_at, tag_at, entry_at}
 use Rattle.bundle.specs.Answers.{Told, own, ◌or_else◌, entry_told, Seen}
 use Rattle.bundle.specs.Opening.{last_rows, open_table, body_at, unwraps_at, opens_entry}
@@ -28,7 +29,7 @@ use Rattle.bundle.specs.Contents.{Pair, labelled, after_pairs}
 use Rattle.bundle.proofs.Tables.{through, fit, wrap_rows}
 use Rattle.bundle.proofs.Entries.{whole_at}
 use Rattle.bundle.proofs.Contents.{adds_all, AllAdded, Sealed}
-use Rattle.bundle.proofs.Opened.{open_told, open_is}
+use Rattle.bundle.proofs.Openings.{open_told, open_is}
 use Rattle.bundle.proofs.Written.{all_holds}
 use Rattle.bundle.proofs.Theorems.{opened_tag}
 
@@ -36,19 +37,15 @@ use Rattle.bundle.proofs.Theorems.{opened_tag}
 
 -- what an accepted opening has passed: the session's own rows, and the rules of a whole entry
 pub record PastChecks (v : Version) (s : Session) (b : List ℕ) (place : ℕ) : Type 0 where
-  pub header : ℕ
-  pub body : ℕ
-  pub after_it : ℕ
+  pub entry : Entry
   pub own_rows_lem : first (own v s) ≡ 0
-  pub whole : entry_at v b place ≡ Whole header body after_it
+  pub whole : entry_at v b place ≡ Ok entry
 
-is_whole : (v : Version) (s : Session) (b : List ℕ) (place : ℕ) (x : Entry) (q : Told) → entry_at v b place ≡ x → first (own v s) ≡ 0
+is_whole : (v : Version) (s : Session) (b : List ℕ) (place : ℕ) (x : Result Entry NoEntry) (q : Told) → entry_at v b place ≡ x → first (own v s) ≡ 0
     → (entry_told x place or_else q).number ≡ 0 → PastChecks v s b place
 unfolding by
-is_whole v s b place (Whole h m n) q w r e = record { header = h; body = m; after_it = n; own_rows_lem = r; whole = w }
-is_whole v s b place Short q w r e = absurd (omega arith)
-is_whole v s b place Large q w r e = absurd (omega arith)
-is_whole v s b place Past q w r e = absurd (omega arith)
+is_whole v s b place (Ok e) q w r z = record { entry = e; own_rows_lem = r; whole = w }
+is_whole v s b place (Err x) q w r z = absurd (omega arith)
 
 module _ (v : Version) (s : Session) (b : List ℕ) (place : ℕ) (o : List ℕ) where
   pub open_passed : (opens_entry v s b place o).answer.number ≡ 0 → PastChecks v s b place
@@ -57,15 +54,15 @@ module _ (v : Version) (s : Session) (b : List ℕ) (place : ℕ) (o : List ℕ)
 
   module _ (p : PastChecks v s b place) where
     told : (opens_entry v s b place o).answer.number ≡ first (last_rows v s b place (length o))
-    told = ap (λ (u : Seen). u.answer.number) (open_told v s b place o p.header p.body p.after_it p.own_rows_lem p.whole)
+    told = ap (λ (u : Seen). u.answer.number) (open_told v s b place o p.entry p.own_rows_lem p.whole)
 
     -- Past the other checks, an opening is accepted if and only if the entry's tag is the one recomputed over its header and body.
-    pub open_accepts_exactly : p.body ≤ length o
+    pub open_accepts_exactly : p.entry.body ≤ length o
         → ((opens_entry v s b place o).answer.number ≡ 0 → tag_at v b place ≡ tag_of desk s (header_at b place) (body_at s b place))
         × (tag_at v b place ≡ tag_of desk s (header_at b place) (body_at s b place) → (opens_entry v s b place o).answer.number ≡ 0)
     unfolding foreign body_at
     open_accepts_exactly l =
-        let w = whole_at v b place p.header p.body p.after_it p.whole in
+        let w = whole_at v b place p.entry p.whole in
         (opened_tag v s b place o, λ e. told ∙ clear_first (last_rows v s b place (length o)) (le-ltb (length o) (body_length b place) (omega (arith, w.is_body)), (rw (same_is _ _ e), tt)))
 
     -- What an opening answers and leaves is what an unwrap of the entry's parts does; the place of the next entry comes with it.
@@ -75,7 +72,7 @@ module _ (v : Version) (s : Session) (b : List ℕ) (place : ℕ) (o : List ℕ)
         × ((opens_entry v s b place o).buffer ≡ (unwraps_at v s b place o).out)
     opening_is_unwrap h =
         let u = unwraps_at v s b place o in
-        let e = open_is v s b place o p.header p.body p.after_it p.own_rows_lem p.whole h u.answer u.out refl in
+        let e = open_is v s b place o p.entry p.own_rows_lem p.whole h u.answer u.out refl in
         (sym (ap (λ (x : Seen). x.answer.number) e), sym (ap (λ (x : Seen). x.answer.session) e), sym (ap (λ (x : Seen). x.buffer) e))
 
 -- ---- a bundle's pairs as calls of a session

@@ -8,6 +8,7 @@ use mathlib.Core.Bool.{false}
 use lib.ListN.{length, get_or, take, drop, length-append}
 use lib.Seq.{sets, take_at}
 use borrow.Author.Tests.{not-false}
+use Rattle.std.specs.Prelude.{Result, Ok, Err}
 use Rattle.fields.specs.Numbers.{bytes_of}
 use Rattle.fields.proofs.Stores.{get_d_sets_before, get_or-sets_after}
 use Rattle.fields.proofs.Numbers.{length-bytes_of}
@@ -18,7 +19,7 @@ use Rattle.spongewrap.specs.declared.Session.{Session}
 use Rattle.compare.proofs.Same.{same_eq}
 use Rattle.refusal.proofs.Rows.{kept, all_clear}
 use Rattle.bundle.specs.declared.Entry.{Entry}
-use Rattle.bundle.specs.declared.Entry.TheVariants.{Whole, Short, Large, Past}
+use Rattle.bundle.specs.declared.NoEntry.{NoEntry}
 use Rattle.bundle.specs.Format.{Version, entry_of, header_at, tag_at, next_at, entry_at}
 use Rattle.bundle.specs.Answers.{Told, refused, accepted, own, ◌or_else◌, entry_told, Seen, seen, settled_at}
 use Rattle.bundle.specs.Survey.{unlabelled, entries_from, surveys}
@@ -50,19 +51,15 @@ unfolding by
 at_place zero p q f w = f w
 at_place (suc m) p q f w = refl
 
-at_entry : (e : Entry) (p : ℕ) (q : Told) → At p q → At p (entry_told e p or_else q)
+at_entry : (e : Result Entry NoEntry) (p : ℕ) (q : Told) → At p q → At p (entry_told e p or_else q)
 unfolding by
-at_entry (Whole h m n) p q f w = f w
-at_entry Short p q f w = refl
-at_entry Large p q f w = refl
-at_entry Past p q f w = refl
+at_entry (Ok e) p q f w = f w
+at_entry (Err x) p q f w = refl
 
-past_entry : (e : Entry) (p : ℕ) (q : Told) → (entry_told e p or_else q).number ≡ 0 → q.number ≡ 0
+past_entry : (e : Result Entry NoEntry) (p : ℕ) (q : Told) → (entry_told e p or_else q).number ≡ 0 → q.number ≡ 0
 unfolding by
-past_entry (Whole h m n) p q e = e
-past_entry Short p q e = absurd (omega arith)
-past_entry Large p q e = absurd (omega arith)
-past_entry Past p q e = absurd (omega arith)
+past_entry (Ok e) p q z = z
+past_entry (Err x) p q z = absurd (omega arith)
 
 module _ (v : Version) (s : Session) where
   -- ---- refusals keep everything

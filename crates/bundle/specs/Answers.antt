@@ -1,14 +1,15 @@
 -- What answers say: a number, a place and values (document 01, "Refusal numbers" and "Bundle, version 1").
-use Rattle.std.specs.Prelude.{ℕ, List, [], ◌∷◌, Bool, not, eqb, get_or}
+use Rattle.std.specs.Prelude.{ℕ, List, [], ◌∷◌, Bool, not, eqb, get_or, Result, Ok, Err}
 use Rattle.spongewrap.specs.Desk.{desk}
 use Rattle.refusal.specs.Rows.{first, by}
+use Rattle.refusal.specs.Numbers.{number_of}
 use Rattle.spongewrap.specs.Refusals.{rows_of}
 use Rattle.spongewrap.specs.declared.Session.{Session}
 use Rattle.bundle.specs.declared.Entry.{Entry}
-use Rattle.bundle.specs.declared.Entry.TheVariants.{Whole, Short, Large, Past}
-use Rattle.bundle.specs.declared.Surveyed.{Surveyed}
-use Rattle.bundle.specs.declared.Surveyed.TheVariants.{Entries, Refused}
-use Rattle.bundle.specs.declared.Reply.{Reply}
+use Rattle.bundle.specs.declared.NoEntry.{NoEntry}
+use Rattle.bundle.specs.declared.Fault.{Fault}
+use Rattle.bundle.specs.declared.Opened.{Opened}
+use Rattle.bundle.specs.declared.Refused.{Refused}
 use Rattle.bundle.specs.Format.{Version, bundle_rate}
 
 -- the number, 0 if accepted; the place, 0 unless said; and what else an accepted call answers
@@ -39,19 +40,45 @@ own v s = rows_of desk.ceiling s (not (eqb s.rate bundle_rate)) (not (eqb s.tag 
 
 -- ---- the answers that are enums
 
--- an entry at a place
-abbrev pub entry_told : Entry → ℕ → Told
-entry_told (Whole header body next) place = accepted (header ∷ body ∷ next ∷ [])
-entry_told Short place = refused 9 place
-entry_told Large place = refused 9 place
-entry_told Past place = refused 9 place
+-- a refusal by its number
+abbrev pub fault_told : Fault → Told
+fault_told f = refused (number_of f.refusal) f.place
+
+-- an entry at a place; whatever the cause that none is whole, it is malformed
+abbrev pub entry_told : Result Entry NoEntry → ℕ → Told
+entry_told (Ok e) place = accepted (e.header ∷ e.body ∷ e.next ∷ [])
+entry_told (Err cause) place = refused 9 place
 
 -- a survey
-abbrev pub survey_told : Surveyed → Told
-survey_told (Entries n) = accepted (n ∷ [])
-survey_told (Refused number place) = refused number place
+abbrev pub survey_told : Result ℕ Fault → Told
+survey_told (Ok n) = accepted (n ∷ [])
+survey_told (Err f) = fault_told f
+
+-- the checks of an add
+abbrev pub check_told : Result ℕ Fault → Told
+check_told (Ok place) = accepted []
+check_told (Err f) = fault_told f
 
 -- ---- the calls that hand a session back
+
+-- a number and its place, the place of the entry after one that opened, and a session; where there is no such place it is 0
+pub record Reply : Type 0 where
+  pub number : ℕ
+  pub place : ℕ
+  pub next : ℕ
+  pub session : Session
+
+-- the replies that their results are
+abbrev pub refused_reply : Refused → Reply
+refused_reply r = record { number = number_of r.fault.refusal; place = r.fault.place; next = 0; session = r.session }
+
+abbrev pub opened_reply : Result Opened Refused → Reply
+opened_reply (Ok o) = record { number = 0; place = 0; next = o.next; session = o.session }
+opened_reply (Err r) = refused_reply r
+
+abbrev pub session_reply : Result Session Refused → Reply
+session_reply (Ok s) = record { number = 0; place = 0; next = 0; session = s }
+session_reply (Err r) = refused_reply r
 
 -- what is seen of one: its answer, and the lent buffer as it is left
 pub record Seen : Type 0 where

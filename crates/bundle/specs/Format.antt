@@ -1,15 +1,17 @@
 -- The format of a bundle, byte by byte, and the entry rules (document 01, "Bundle, version 1").
 -- Byte 0 is the version. Bytes 1 to 4: how many bytes follow, big-endian. Then entries: header length (2 bytes), body length (4),
 -- header, ciphertext, tag of the version's length. Lengths are big-endian.
-use Rattle.std.specs.Prelude.{ℕ, ◌+◌, ◌-◌, ◌≤◌, ◌≡◌, refl, List, ◌++◌, Bool, false, length, take, drop, ltb}
+use Rattle.std.specs.Prelude.{ℕ, ◌+◌, ◌-◌, ◌≤◌, ◌≡◌, refl, List, ◌++◌, Bool, false, length, take, drop, ltb, Result, Ok, Err}
 use Rattle.fields.specs.Numbers.{number_at, bytes_of}
 use Rattle.refusal.specs.Rows.{pick, outside}
+use Rattle.refusal.specs.Limits.{bad_size}
 use Rattle.spongewrap.specs.Desk.{desk}
-use Rattle.spongewrap.specs.Refusals.{most_body, bad_size, long_body}
+use Rattle.spongewrap.specs.Refusals.{most_body, long_body}
 use Rattle.spongewrap.specs.Sessions.{sealing, tag_of}
 use Rattle.spongewrap.specs.declared.Session.{Session}
 use Rattle.bundle.specs.declared.Entry.{Entry}
-use Rattle.bundle.specs.declared.Entry.TheVariants.{Whole, Short, Large, Past}
+use Rattle.bundle.specs.declared.NoEntry.{NoEntry}
+use Rattle.bundle.specs.declared.NoEntry.TheVariants.{Short, Large, Past}
 
 -- ---- versions
 
@@ -64,22 +66,22 @@ abbrev pub next_at : Version → List ℕ → ℕ → ℕ
 next_at v b place = place + size v (header_length b place) (body_length b place)
 
 -- an entry with these lengths, and this place after it, is whole
-pub record WholeAt (v : Version) (b : List ℕ) (place header body next : ℕ) : Type 0 where
-  pub is_header : header ≡ header_length b place
-  pub is_body : body ≡ body_length b place
-  pub is_next : next ≡ next_at v b place
-  pub small : body ≤ most_body
-  pub ends : next ≤ length b
+pub record WholeAt (v : Version) (b : List ℕ) (place : ℕ) (e : Entry) : Type 0 where
+  pub is_header : e.header ≡ header_length b place
+  pub is_body : e.body ≡ body_length b place
+  pub is_next : e.next ≡ next_at v b place
+  pub small : e.body ≤ most_body
+  pub ends : e.next ≤ length b
 
 -- ---- the entry rules
 
 -- malformed: under 6 bytes left; a body length over 1,048,576; not enough bytes for the entry
-unfoldable pub entry_at : Version → List ℕ → ℕ → Entry
+unfoldable pub entry_at : Version → List ℕ → ℕ → Result Entry NoEntry
 entry_at v b place =
-    pick (ltb (length b - place) 6) Short
-    (pick (long_body (body_length b place)) Large
-    (pick (ltb (length b) (next_at v b place)) Past
-    (Whole (header_length b place) (body_length b place) (next_at v b place))))
+    pick (ltb (length b - place) 6) (Err Short)
+    (pick (long_body (body_length b place)) (Err Large)
+    (pick (ltb (length b) (next_at v b place)) (Err Past)
+    (Ok (record { header = header_length b place; body = body_length b place; next = next_at v b place }))))
 
 -- entry zero has a label of 16 to 64 bytes and an empty body
 abbrev pub bad_label : ℕ → Bool

@@ -1,19 +1,17 @@
 -- The survey of a bundle (document 01, "Bundle, version 1": "Survey, in order").
-use Rattle.std.specs.Prelude.{ℕ, zero, suc, ◌+◌, ◌-◌, List, [], ◌∷◌, Bool, true, not, ◌||◌, length, get_or, eqb, ltb}
+use Rattle.std.specs.Prelude.{ℕ, zero, suc, ◌+◌, ◌-◌, List, [], ◌∷◌, Bool, true, not, ◌||◌, length, get_or, eqb, ltb, Result, Ok, Err}
 use Rattle.fields.specs.Numbers.{number_at}
 use Rattle.refusal.specs.Rows.{pick}
 use Rattle.spongewrap.specs.Refusals.{most_pairs}
 use Rattle.bundle.specs.declared.Entry.{Entry}
-use Rattle.bundle.specs.declared.Entry.TheVariants.{Whole, Short, Large, Past}
+use Rattle.bundle.specs.declared.NoEntry.{NoEntry}
 use Rattle.bundle.specs.Format.{Version, most, next_at, entry_at, bad_label}
 use Rattle.bundle.specs.Answers.{Told, refused, accepted, placed, ◌or_else◌, entry_told}
 
 -- entry zero is missing, has a body, or its header isn't 16 to 64 bytes
-unfoldable pub unlabelled : Entry → Bool
-unlabelled (Whole header body next) = not (eqb body 0) || bad_label header
-unlabelled Short = true
-unlabelled Large = true
-unlabelled Past = true
+unfoldable pub unlabelled : Result Entry NoEntry → Bool
+unlabelled (Ok e) = not (eqb e.body 0) || bad_label e.header
+unlabelled (Err cause) = true
 
 -- last, 11 at 5; else the number of entries
 unfoldable pub last : Version → List ℕ → ℕ → Told

@@ -4,7 +4,7 @@ ghost use Rattle.spongewrap.specs.Sessions.{cost};
 ghost use Rattle.spongewrap.specs.Refusals.{most_header, most_body};
 ghost use Rattle.bundle.specs.Format.{version1, bundle_rate, size, entry_at, bad_label};
 
-use crate::Entry;
+use crate::{Entry, NoEntry};
 use fields::Number;
 use spongewrap::orders;
 
@@ -36,30 +36,27 @@ pub fn entry_size(header: usize, body: usize) -> usize
 }
 
 // The entry at a place, by the entry rules (document 01, "Bundle, version 1"), up to the end of the lent bytes.
-pub fn entry_at(bundle: &[u8], place: usize) -> Entry
+pub fn entry_at(bundle: &[u8], place: usize) -> Result<Entry, NoEntry>
     ensures { result ≡ entry_at version1 bundle.now place }
 {
-    if bundle.len() <= place {
-        return Entry::Short;
-    }
-    let left = bundle.len() - place;
+    let left = bundle.len().saturating_sub(place);
     if left < LENGTHS {
-        return Entry::Short;
+        return Err(NoEntry::Short);
     }
     let header = u16::read(bundle, place) as usize;
     let body = u32::read(bundle, place + 2) as usize;
     if orders::MOST_BODY < body {
-        return Entry::Large;
+        return Err(NoEntry::Large);
     }
     let size = entry_size(header, body);
     if left < size {
-        return Entry::Past;
+        return Err(NoEntry::Past);
     }
-    Entry::Whole {
+    Ok(Entry {
         header,
         body,
         next: place + size,
-    }
+    })
 }
 
 // The permutation calls that an entry adds to its session's, by the lengths of its header and body.

@@ -7,33 +7,30 @@ mod surveying; // surveying.rt: whether bytes are a bundle
 mod opening; // opening.rt: opening the entry at a place
 mod writing; // writing.rt: starting a bundle and adding to it
 
-ghost use Rattle.std.specs.Prelude.{◌≡◌};
+ghost use Rattle.std.specs.Prelude.{◌≡◌, Err};
 ghost use Rattle.refusal.specs.Rows.{first};
+ghost use Rattle.refusal.specs.Numbers.{told};
 ghost use Rattle.bundle.specs.Format.{version1};
-ghost use Rattle.bundle.specs.Answers.{own, entry_told};
+ghost use Rattle.bundle.specs.Answers.{own, fault_told, entry_told};
 
 pub use format::{FIRST, RATE, TAG, calls_of, entry_at};
 pub use opening::open_entry;
+use refusal::Refusal;
 use spongewrap::{Session, orders};
 pub use surveying::survey;
 pub use writing::{add, end_of, start};
 
-// The format's own refusal numbers; the others are in `refusal`.
-pub const MALFORMED: u8 = 9;
+// A whole entry: the lengths of its header and body, and the place after it.
+#[derive(Clone, Copy, Debug, PartialEq, Eq)]
+pub struct Entry {
+    pub header: usize,
+    pub body: usize,
+    pub next: usize,
+}
 
-pub const OTHER_VERSION: u8 = 10;
-
-pub const NO_LABEL: u8 = 11;
-
-// What stands at a place: a whole entry, or why there is none.
-#[derive(Clone, Copy)]
-pub enum Entry {
-    // The lengths of its header and body, and the place after it.
-    Whole {
-        header: usize,
-        body: usize,
-        next: usize,
-    },
+// Why no whole entry stands at a place.
+#[derive(Clone, Copy, Debug, PartialEq, Eq)]
+pub enum NoEntry {
     // Under six bytes are left.
     Short,
     // The body length is over the limit.
@@ -42,83 +39,51 @@ pub enum Entry {
     Past,
 }
 
-// A survey's answer: the number of entries, or a refusal.
-#[derive(Clone, Copy)]
-pub enum Surveyed {
-    Entries(usize),
-    Refused { number: u8, place: usize },
+impl NoEntry {
+    // The fault of a place with no whole entry: the causes get their refusal and place here.
+    pub fn at(self, place: usize) -> Fault
+        ensures { fault_told result ≡ entry_told (Err self) place }
+    {
+        Fault {
+            refusal: Refusal::Malformed,
+            place,
+        }
+    }
 }
 
-// What a call with a session answers: 0 or a refusal's number, a refusal's place, the place of the entry after one that opened,
-// and a session. Where there is no such place it is 0.
-#[derive(Clone, Copy)]
-pub struct Reply {
-    pub number: u8,
+// A refusal, and the place that it names.
+#[derive(Clone, Copy, Debug, PartialEq, Eq)]
+pub struct Fault {
+    pub refusal: Refusal,
     pub place: usize,
+}
+
+// A refusal of no entry names place 0.
+impl From<Refusal> for Fault {
+    ghost from_gives = { λ refusal fault. fault ≡ record { refusal = refusal; place = 0 } };
+
+    fn from(refusal: Refusal) -> Fault {
+        Fault { refusal, place: 0 }
+    }
+}
+
+// What an opened entry answers: the place of the next one, and the session that opens it.
+#[derive(Clone, Copy)]
+pub struct Opened {
     pub next: usize,
     pub session: Session,
 }
 
-// A refusal that is not answered yet; number 0 refuses nothing.
+// What a refused call answers: why and where, and the session as it was handed in.
 #[derive(Clone, Copy)]
-struct Refusal {
-    pub number: u8,
-    pub place: usize,
+pub struct Refused {
+    pub fault: Fault,
+    pub session: Session,
 }
 
-// The refusal of a place where no entry is whole: the causes get their numbers and places here.
-fn entry_refusal(entry: Entry, place: usize) -> Refusal
-    ensures { (result.number ≡ (entry_told entry place).number) × (result.place ≡ (entry_told entry place).place) }
-{
-    match entry {
-        Entry::Whole {
-            header: _,
-            body: _,
-            next: _,
-        } => Refusal {
-            number: 0,
-            place: 0,
-        },
-        Entry::Short => Refusal {
-            number: MALFORMED,
-            place,
-        },
-        Entry::Large => Refusal {
-            number: MALFORMED,
-            place,
-        },
-        Entry::Past => Refusal {
-            number: MALFORMED,
-            place,
-        },
-    }
-}
-
-fn refuse(number: u8, place: usize, session: Session) -> Reply
-    ensures { result ≡ record { number = number; place = place; next = 0; session = session } }
-{
-    Reply {
-        number,
-        place,
-        next: 0,
-        session,
-    }
-}
-
-fn accept(next: usize, session: Session) -> Reply
-    ensures { result ≡ record { number = 0; place = 0; next = next; session = session } }
-{
-    Reply {
-        number: 0,
-        place: 0,
-        next,
-        session,
-    }
-}
-
-// What a bundle refuses of a session: 1, 3, 7, or 0.
-fn own_refusal(s: Session) -> u8
-    ensures { result ≡ first (own version1 s) }
+// What a bundle refuses of a session: 1, 3, or 7.
+fn own_refusal(s: Session) -> Result<(), Refusal>
+    ensures { told result ≡ first (own version1 s) }
 {
     orders::of_session(s, s.rate != format::RATE, s.tag as usize != format::TAG)
 }

@@ -3,9 +3,6 @@ use borrow.Author.Rules.{rules}
 use Rattle.bundle.proofs.Entries.{entry_short, entry_large, entry_past, entry_whole}
 use Rattle.bundle.proofs.format.entry_at.Goals as goal
 
-pub returns-then-bundle-place : goal.returns-then-bundle-place
-returns-then-bundle-place c = entry_short _ _ _ (search rules)
-
 pub returns-then-left-lt-LENGTHS : goal.returns-then-left-lt-LENGTHS
 returns-then-left-lt-LENGTHS c = entry_short _ _ _ (search rules)
 

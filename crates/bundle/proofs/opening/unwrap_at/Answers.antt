@@ -1,5 +1,5 @@
 -- The parts that are lent are those of the entry.
-use Rattle.bundle.proofs.Opened.{parts_lent}
+use Rattle.bundle.proofs.Openings.{parts_lent}
 use Rattle.bundle.proofs.opening.unwrap_at.Goals as goal
 
 pub returns : goal.returns

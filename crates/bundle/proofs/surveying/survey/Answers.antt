@@ -7,11 +7,12 @@ use Rattle.bundle.proofs.surveying.survey.Goals as goal
 pub returns-then-bytes-eq0 : goal.returns-then-bytes-eq0
 unfolding surveys
 returns-then-bytes-eq0 c =
-    elim c.then-bytes-eq0.branch [ goal.then-bytes-eq0-via-then-bytes-eq0 x ↦ search (rules, tables) | goal.then-bytes-eq0-via-else-bytes-eq0+then-bytes-gt-MOST_BYTES y ↦ search (rules, tables) ]
+    rw c.into.ensures
+    (elim c.then-bytes-eq0.branch [ goal.then-bytes-eq0-via-then-bytes-eq0 x ↦ search (rules, tables) | goal.then-bytes-eq0-via-else-bytes-eq0+then-bytes-gt-MOST_BYTES y ↦ search (rules, tables) ])
 
 pub returns-then-bundle-ne-VERSION : goal.returns-then-bundle-ne-VERSION
 unfolding surveys
-returns-then-bundle-ne-VERSION c = search (rules, tables)
+returns-then-bundle-ne-VERSION c = rw c.into-then-bundle-ne-VERSION.ensures (search (rules, tables))
 
 pub returns-then-bytes-lt-FIRST : goal.returns-then-bytes-lt-FIRST
 unfolding surveys

@@ -4,13 +4,18 @@ use Rattle.bundle.proofs.Tables.{settle_stops}
 use Rattle.bundle.proofs.Stores.{add_found, added}
 use Rattle.bundle.proofs.writing.add.Goals as goal
 
-pub returns-then-number-ne0 : goal.returns-then-number-ne0
+pub write_last-requires-clause-ready : goal.write_last-requires-clause-ready
+write_last-requires-clause-ready c = (add_found _ _ _ _ _ c.in-Ok.ensures.told).ready
+
+pub write_last-requires-clause-room : goal.write_last-requires-clause-room
+write_last-requires-clause-room c = (add_found _ _ _ _ _ c.in-Ok.ensures.told).room
+
+pub write_last-requires-clause-bytes : goal.write_last-requires-clause-bytes
+write_last-requires-clause-bytes c = (add_found _ _ _ _ _ c.in-Ok.ensures.told).bytes
+
+pub returns-in-Ok : goal.returns-in-Ok
+returns-in-Ok c = added _ _ _ _ _ _ _ c.in-Ok.ensures.told c.write_last.ensures.0 c.write_last.ensures.1
+
+pub returns-in-Err : goal.returns-in-Err
 unfolding adds
-returns-then-number-ne0 c =
-    rw c.refuse.ensures (settle_stops _ _ _ _ _ _ _ c.add_refusal-r.ensures c.if-number-ne0.true)
-
-pub write_last-session-requires : goal.write_last-session-requires
-write_last-session-requires c = let f = add_found _ _ _ _ _ _ _ c.add_refusal-r.ensures c.if-number-ne0.false in (f.ready, f.room, f.bytes)
-
-pub returns : goal.returns
-returns c = rw c.accept.ensures (search added)
+returns-in-Err c = settle_stops _ _ _ _ _ _ _ c.in-Err.ensures.told

@@ -5,14 +5,12 @@ use Rattle.bundle.proofs.Tables.{tables}
 use Rattle.bundle.proofs.Stores.{no_end, end_stated}
 use Rattle.bundle.proofs.writing.end_of.Goals as goal
 
-pub returns-then-bundle-lt-FIRST : goal.returns-then-bundle-lt-FIRST
-unfolding end_in
-returns-then-bundle-lt-FIRST c = (search (rules, no_end), search rules)
+pub returns-then-bundle-lt-FIRST-clause-stated : goal.returns-then-bundle-lt-FIRST-clause-stated
+returns-then-bundle-lt-FIRST-clause-stated c = search (rules, no_end)
 
-pub returns-then-bundle-end : goal.returns-then-bundle-end
+pub returns-then-bundle-end-clause-stated : goal.returns-then-bundle-end-clause-stated
 unfolding end_in
-returns-then-bundle-end c = (search (rules, tables), search rules)
+returns-then-bundle-end-clause-stated c = search (rules, tables)
 
-pub returns : goal.returns
-unfolding end_in
-returns c = (search (rules, end_stated), search rules)
+pub returns-clause-stated : goal.returns-clause-stated
+returns-clause-stated c = search (rules, end_stated)

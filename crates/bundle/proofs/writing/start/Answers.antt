@@ -4,13 +4,12 @@ use Rattle.bundle.proofs.Tables.{settle_stops}
 use Rattle.bundle.proofs.Stores.{start_found, started}
 use Rattle.bundle.proofs.writing.start.Goals as goal
 
-pub returns-then-number-ne0 : goal.returns-then-number-ne0
+pub write_first-requires : goal.write_first-requires
+write_first-requires c = let f = start_found _ _ _ _ c.in-Ok.ensures in (f.ready, f.room)
+
+pub returns-in-Ok : goal.returns-in-Ok
+returns-in-Ok c = started _ _ _ _ _ _ c.in-Ok.ensures c.write_first.ensures.0 c.write_first.ensures.1
+
+pub returns-in-Err : goal.returns-in-Err
 unfolding starts
-returns-then-number-ne0 c =
-    rw c.refuse.ensures (settle_stops _ _ _ _ _ _ _ c.start_refusal-number.ensures c.if-number-ne0.true)
-
-pub write_first-session-requires : goal.write_first-session-requires
-write_first-session-requires c = let f = start_found _ _ _ _ _ c.start_refusal-number.ensures c.if-number-ne0.false in (f.ready, f.room)
-
-pub returns : goal.returns
-returns c = rw c.accept.ensures (search started)
+returns-in-Err c = rw c.into.ensures (settle_stops _ _ _ _ _ _ _ c.in-Err.ensures)

@@ -7,41 +7,43 @@ use lib.ListN.{length, get_or, take, drop, length-drop}
 use lib.Seq.{length-take-le}
 use mir.Syntax.{w8}
 use mir.Val.{Fits}
+use Rattle.std.specs.Prelude.{Result, Ok, Err}
 use Rattle.fields.proofs.Numbers.{number_two}
 use Rattle.spongewrap.specs.Desk.{desk}
 use Rattle.refusal.specs.Rows.{by, first}
-use Rattle.spongewrap.specs.Sessions.{next, settled, unwraps, Seen as Unwrapped, seen as unwrap_seen}
+use Rattle.refusal.specs.Numbers.{number_of}
+use Rattle.refusal.specs.declared.Refusal.{Refusal}
+use Rattle.refusal.proofs.Rows.{kept}
+use Rattle.refusal.proofs.Numbers.{numbered_refusal}
+use Rattle.spongewrap.specs.Sessions.{Answer as Unwrap, next, settled, unwraps, Seen as Unwrapped, seen as unwrap_seen}
 use Rattle.spongewrap.specs.declared.Session.{Session}
-use Rattle.spongewrap.specs.declared.Answer.{Answer as Unwrap}
 use Rattle.bundle.specs.declared.Entry.{Entry}
-use Rattle.bundle.specs.declared.Entry.TheVariants.{Whole}
+use Rattle.bundle.specs.declared.NoEntry.{NoEntry}
 use Rattle.bundle.specs.Format.{Version, header_length, body_length, header_at, cipher_at, next_at, WholeAt, entry_at}
-use Rattle.bundle.specs.Answers.{own, entry_told, seen}
+use Rattle.bundle.specs.Answers.{refused, own, entry_told, seen}
 use Rattle.bundle.specs.Opening.{last_rows, open_table, body_at, unwraps_at, opens_entry}
 use Rattle.bundle.proofs.Tables.{goes, fit, unwrap_rows, settle_stops, settle_by}
 use Rattle.bundle.proofs.Entries.{whole_at, entry_bad}
 
 -- no entry is whole there
-pub open_bad : (v : Version) (s : Session) (b : List ℕ) (place : ℕ) (o : List ℕ) (e : Entry) (n p : ℕ) → first (own v s) ≡ 0 → e ≡ entry_at v b place
-    → ((entry_told e place).number ≡ 0 → ⊥) → n ≡ (entry_told e place).number → p ≡ (entry_told e place).place
-    → seen (record { number = n; place = p; next = 0; session = s }) o ≡ opens_entry v s b place o
+pub open_bad : (v : Version) (s : Session) (b : List ℕ) (place : ℕ) (o : List ℕ) (x : NoEntry) (r : Refusal) (p : ℕ) → first (own v s) ≡ 0 → Err x ≡ entry_at v b place
+    → refused (number_of r) p ≡ entry_told (Err x) place → seen (record { number = number_of r; place = p; next = 0; session = s }) o ≡ opens_entry v s b place o
 unfolding opens_entry open_table
-open_bad v s b place o e n p z g d en ep =
-    settle_stops _ s _ o _ n p (goes place (sym z) refl (entry_bad e _ place n p _ g d en ep)) (λ x. d (sym en ∙ x))
+open_bad v s b place o x r p z e f = settle_stops _ s _ o _ r p (goes place (sym z) refl (entry_bad x _ place _ _ e f))
 
 -- the parts that the code lends are those of the entry
-pub parts_lent : (v : Version) (s : Session) (b : List ℕ) (place h m n : ℕ) (a : Unwrap) (o o' : List ℕ) → WholeAt v b place h m n
-    → unwrap_seen a o' ≡ unwraps desk s (take (place + 6 + h - (place + 6)) (drop (place + 6) b)) (take (place + 6 + h + m - (place + 6 + h)) (drop (place + 6 + h) b))
-    (take (n - (place + 6 + h + m)) (drop (place + 6 + h + m) b)) o → unwrap_seen a o' ≡ unwraps_at v s b place o
-parts_lent v s b place h m n a o o' w p =
-    let ei : place + 6 + h - (place + 6) ≡ h = omega arith in
-    let ej : place + 6 + h + m - (place + 6 + h) ≡ m = omega arith in
-    let ek : n - (place + 6 + h + m) ≡ v.tag = omega arith in
+pub parts_lent : (v : Version) (s : Session) (b : List ℕ) (place : ℕ) (e : Entry) (a : Unwrap) (o o' : List ℕ) → WholeAt v b place e
+    → unwrap_seen a o'
+    ≡ unwraps desk s (take (place + 6 + e.header - (place + 6)) (drop (place + 6) b)) (take (place + 6 + e.header + e.body - (place + 6 + e.header)) (drop (place + 6 + e.header) b))
+    (take (e.next - (place + 6 + e.header + e.body)) (drop (place + 6 + e.header + e.body) b)) o → unwrap_seen a o' ≡ unwraps_at v s b place o
+parts_lent v s b place e a o o' w p =
+    let ei : place + 6 + e.header - (place + 6) ≡ e.header = omega arith in
+    let ej : place + 6 + e.header + e.body - (place + 6 + e.header) ≡ e.body = omega arith in
+    let ek : e.next - (place + 6 + e.header + e.body) ≡ v.tag = omega arith in
     p ∙ rw (ei, ej, ek, w.is_header, w.is_body) refl
 
 -- the session fits, and the entry is whole
-module _ (v : Version) (s : Session) (b : List ℕ) (place : ℕ) (o : List ℕ) (h m n : ℕ) (z : first (own v s) ≡ 0)
-    (e : entry_at v b place ≡ Whole h m n) where
+module _ (v : Version) (s : Session) (b : List ℕ) (place : ℕ) (o : List ℕ) (x : Entry) (z : first (own v s) ≡ 0) (e : entry_at v b place ≡ Ok x) where
   -- the last rows of the table
   abbrev pub last_number : ℕ
   last_number = first (last_rows v s b place (length o))
@@ -53,8 +55,8 @@ module _ (v : Version) (s : Session) (b : List ℕ) (place : ℕ) (o : List ℕ)
   unfolding opens_entry open_table by
   open_told = rw (z, e) (settle_by last_number place (next_at v b place) s _ o _)
 
-  w : WholeAt v b place h m n
-  w = whole_at v b place h m n e
+  w : WholeAt v b place x
+  w = whole_at v b place x e
 
   long : (k i : ℕ) → i + k ≤ length b → length (take k (drop i b)) ≡ k
   long k i l = length-take-le k (drop i b) (omega (arith, length-drop i b))
@@ -72,7 +74,19 @@ module _ (v : Version) (s : Session) (b : List ℕ) (place : ℕ) (o : List ℕ)
         rw (lh, lc, unwrap_rows v s (header_length b place) (body_length b place) (length o) (fit v s z) (omega (arith, number_two b place, bytes place, bytes (place + 1))) (omega arith) _)
 
     pub open_is : (a : Unwrap) (o' : List ℕ) → unwrap_seen a o' ≡ unwraps_at v s b place o
-        → seen (record { number = a.number; place = by a.number place 0; next = by a.number 0 n; session = a.session }) o' ≡ opens_entry v s b place o
+        → seen (record { number = a.number; place = by a.number place 0; next = by a.number 0 x.next; session = a.session }) o' ≡ opens_entry v s b place o
     open_is a o' call =
         let g = call ∙ unwrap_told in
         rw (ap (λ (u : Unwrapped). u.answer.number) g, ap (λ (u : Unwrapped). u.answer.session) g, ap (λ (u : Unwrapped). u.out) g, w.is_next) (sym open_told)
+
+    -- so of a session, and of a refusal
+    module _ (t : Session) (o' : List ℕ) where
+      pub open_taken : unwrap_seen (record { number = 0; session = t }) o' ≡ unwraps_at v s b place o
+          → seen (record { number = 0; place = 0; next = x.next; session = t }) o' ≡ opens_entry v s b place o
+      unfolding by
+      open_taken call = open_is (record { number = 0; session = t }) o' call
+
+      pub open_stopped : (r : Refusal) → unwrap_seen (record { number = number_of r; session = t }) o' ≡ unwraps_at v s b place o
+          → seen (record { number = number_of r; place = place; next = 0; session = t }) o' ≡ opens_entry v s b place o
+      open_stopped r call =
+          rw (kept (number_of r) place 0 (numbered_refusal r), kept (number_of r) 0 x.next (numbered_refusal r)) at (open_is (record { number = number_of r; session = t }) o' call)
