@@ -6,52 +6,30 @@ ghost use Rattle.std.specs.Prelude.{◌≤◌, length, take};
 ghost use Rattle.std.specs.Io.KnownBytes.{Consumes};
 
 use bundle::{Entry, Surveyed};
+use std::fmt::Display;
 use std::io::Read;
 
 // The most bytes that are listed.
 const MOST: usize = 65_536;
 
 // A write that fails is passed over.
-fn write(rt: &impl Print, text: &[u8]) {
-    let _ = rt.write_all(text);
-}
-
-fn print(rt: &impl Print, text: &[u8], n: u64) {
-    write(rt, text);
-    let _ = print!(rt; "{n}");
+fn print(rt: &impl Print, line: impl Display + Drop) {
+    let _ = println!(rt; "{line}");
 }
 
 fn print_refusal(rt: &impl Print, number: u8, place: usize) {
-    print(rt, b"refused ", number as u64);
-    print(rt, b" at ", place as u64);
-    write(rt, b"\n");
-}
-
-fn print_first(rt: &impl Print, bytes: usize, entries: usize) {
-    print(rt, b"version 1 bytes ", bytes as u64);
-    print(rt, b" entries ", entries as u64);
-    write(rt, b"\n");
-}
-
-fn print_entry(rt: &impl Print, k: usize, place: usize, header: usize, body: usize, calls: u64) {
-    print(rt, b"", k as u64);
-    print(rt, b" at ", place as u64);
-    print(rt, b" header ", header as u64);
-    print(rt, b" body ", body as u64);
-    print(rt, b" calls ", calls);
-    write(rt, b"\n");
-}
-
-fn print_last(rt: &impl Print, calls: u64) {
-    print(rt, b"calls ", calls);
-    write(rt, b"\n");
+    print(rt, format_args!("refused {number} at {place}"));
 }
 
 #[tactic(auto, using(bundle::proofs::Entries::whole_at))]
 fn print_entries(rt: &impl Print, bytes: &[u8], entries: usize) {
-    print_first(rt, bytes.len(), entries);
+    let length = bytes.len();
+    print(
+        rt,
+        format_args!("version 1 bytes {length} entries {entries}"),
+    );
     let mut place = bundle::FIRST;
-    let mut k = 0;
+    let mut k = 0usize;
     let mut sum = 0;
     while place < bytes.len() {
         let entry = bundle::entry_at(bytes, place);
@@ -59,12 +37,15 @@ fn print_entries(rt: &impl Print, bytes: &[u8], entries: usize) {
             return;
         };
         let calls = bundle::calls_of(header, body);
-        print_entry(rt, k, place, header, body, calls);
+        print(
+            rt,
+            format_args!("{k} at {place} header {header} body {body} calls {calls}"),
+        );
         sum += calls;
         place = next;
         k += 1;
     }
-    print_last(rt, sum);
+    print(rt, format_args!("calls {sum}"));
 }
 
 fn list(rt: &impl Print, bytes: &[u8]) {
