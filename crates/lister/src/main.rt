@@ -2,12 +2,8 @@
 // Everything that matters is in the library; this reads, calls and prints.
 #![tactic(auto)]
 
-ghost use Rattle.std.specs.Prelude.{◌≤◌, length, take};
-ghost use Rattle.std.specs.Io.KnownBytes.{Consumes};
-
 use bundle::{Entry, Surveyed};
 use std::fmt::Display;
-use std::io::Read;
 
 // The most bytes that are listed.
 const MOST: usize = 65_536;
@@ -56,31 +52,12 @@ fn list(rt: &impl Print, bytes: &[u8]) {
     }
 }
 
-// Reads until the buffer is full, the input ends or a read fails. Answers how many bytes were read, which stand at the start of the
-// buffer as the input gave them.
-fn read_full<R: Read>(input: &mut R, buffer: &mut [u8]) -> usize
-    ensures within { result ≤ length buffer.new }
-    ensures bytes { Consumes (R.remaining input.old) (R.remaining input.new) (take result buffer.new) }
-{
-    let mut done = 0;
-    while done < buffer.len() {
-        let Ok(n) = input.read(&mut buffer[done..]) else {
-            break;
-        };
-        if n == 0 {
-            break;
-        }
-        done += n;
-    }
-    done
-}
-
 fn main(rt: HostRuntime) {
     let mut bytes = [0u8; MOST];
     let mut input = rt.stdin();
-    let n = read_full(&mut input, &mut bytes);
+    let n = reading::read_full(&mut input, &mut bytes);
     let mut more = [0u8; 1];
-    let over = read_full(&mut input, &mut more);
+    let over = reading::read_full(&mut input, &mut more);
     if over != 0 {
         print_refusal(&rt, refusal::NO_ROOM, bytes.len());
         return;
