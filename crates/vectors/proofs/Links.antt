@@ -1,8 +1,8 @@
 -- The steps of a Monte Carlo chain.
 use mathlib.Core.Path.{◌≡◌, ap, ◌∙◌}
 use mathlib.Core.List.{List, ◌++◌}
-use Prim.Native.Nat.{ℕ, ◌+◌, ◌-◌, ◌≤◌}
-use native.Mathlib.Numerals.{add-one, unary_clauses}
+use Prim.Native.Nat.{ℕ, ◌+◌, ◌≤◌}
+use native.Mathlib.Numerals.{add-one}
 use native.Mathlib.Omega.{arith}
 use lib.ListN.{take, drop, replicate}
 use Rattle.vectors.specs.declared.hashes.Hash.{Hash}
@@ -10,8 +10,8 @@ use Rattle.vectors.specs.declared.chains.Link.{Link}
 use Rattle.vectors.specs.Chains.{widened, hashed, carried, chosen, linked, links}
 
 -- an output of n bytes in the front of the zeros
-pub front : (H : ℕ → List ℕ) (x : List ℕ) (n k : ℕ) → x ≡ H k → k ≡ n → x ++ drop (n - 0) (replicate 256 0) ≡ widened n (H n)
-front H x n k p q = simp unary_clauses (ap (λ (l : List ℕ). l ++ drop n (replicate 256 0)) (p ∙ ap H q))
+pub front : (H : ℕ → List ℕ) (x : List ℕ) (n k : ℕ) → x ≡ H k → k ≡ n → x ++ drop n (replicate 256 0) ≡ widened n (H n)
+front H x n k p q = ap (λ (l : List ℕ). l ++ drop n (replicate 256 0)) (p ∙ ap H q)
 
 module _ (h : Hash) (least most : ℕ) where
   pub link_is : (k : Link) (o : List ℕ) (n : ℕ) → o ≡ hashed h (take (carried h) k.output) k.next → n ≡ chosen o k.next least most

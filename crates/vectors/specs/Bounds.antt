@@ -1,16 +1,11 @@
 -- The bounds that the contracts cite.
-use Rattle.std.specs.Prelude.{ℕ, ◌+◌, ◌≤◌, Bool, true, false, List, eqb, ltb, length}
+use Rattle.std.specs.Prelude.{ℕ, ◌+◌, ◌≤◌, Bool, true, false, List, Option, Some, eqb, ltb, length}
 use Rattle.refusal.specs.Rows.{pick}
-use Rattle.vectors.specs.declared.pairs.Pair.{Pair}
 use Rattle.vectors.specs.declared.tally.Tally.{Tally}
 
 -- the elements from a up to e are there
 abbrev pub Part : ℕ → ℕ → List ℕ → Type 0
 Part a e l = (a ≤ e) × (e ≤ length l)
-
--- the parts of a pair are whole in their buffers
-abbrev pub Within : Pair → List ℕ → List ℕ → List ℕ → Type 0
-Within p header body due = (p.header ≤ length header) × (p.body ≤ length body) × (p.cipher ≤ length due) × (p.due ≤ length due)
 
 -- of at most n cases no more agreed than were run
 abbrev pub Tallied : Tally → ℕ → Type 0
@@ -26,9 +21,9 @@ more true n = n + 1
 more false n = n
 
 -- the first that differs: this one where all before agreed
-abbrev pub differing : Bool → Tally → ℕ
+abbrev pub differing : Bool → Tally → Option ℕ
 differing true t = t.first
-differing false t = pick (eqb t.agreed t.run) t.run t.first
+differing false t = pick (eqb t.agreed t.run) (Some t.run) t.first
 
 -- a rate or a tag length as an open takes it: 0 where it is too large
 abbrev pub setting : ℕ → ℕ

@@ -2,108 +2,87 @@
 use bundle::{Entry, Surveyed};
 use spongewrap::Session;
 
-// A bundle as far as it has come: the sessions that write and read it, where its next entry will stand, and whether everything
-// agreed so far.
+// No body of the file has more bytes.
+const MOST: usize = 1024;
+
+// A bundle of which everything agreed so far: the sessions that write and read it, and where its next entry will stand.
 #[derive(Clone, Copy)]
 pub struct Made {
-    pub agrees: bool,
-    pub writer: Session,
-    pub reader: Session,
-    pub place: usize,
-}
-
-// No bundle yet, by both sessions of a key.
-pub fn fresh(key: &[u8]) -> Made {
-    let answer = Session::open(key);
-    let number = answer.number;
-    let writer = answer.session;
-    let reader = answer.session;
-    Made {
-        agrees: number == 0,
-        writer,
-        reader,
-        place: bundle::FIRST,
-    }
-}
-
-// No bundle, which agrees with none: no key is so short.
-pub fn unmade() -> Made {
-    fresh(b"")
+    writer: Session,
+    reader: Session,
+    place: usize,
 }
 
 // The place after the entry at one, or the same place where none is whole.
 fn after(bytes: &[u8], place: usize) -> usize {
-    let entry = bundle::entry_at(bytes, place);
-    let Entry::Whole { header, body, next } = entry else {
-        return place;
-    };
-    next
-}
-
-// The bundle after the writer has answered `number` and come to `writer`. The reader opens the entry that stands there now into an
-// output: it agrees if that then holds the body, and nothing more.
-fn followed(
-    made: Made,
-    number: u8,
-    writer: Session,
-    bytes: &[u8],
-    body: &[u8],
-    out: &mut [u8],
-) -> Made {
-    let place = made.place;
-    let before = made.reader;
-    let answer = bundle::open_entry(before, bytes, place, out);
-    let opened = answer.number;
-    let reader = answer.session;
-    let same = compare::is_same(&out[..], body);
-    Made {
-        agrees: made.agrees && number == 0 && opened == 0 && same,
-        writer,
-        reader,
-        place: after(bytes, place),
+    match bundle::entry_at(bytes, place) {
+        Entry::Whole {
+            header: _,
+            body: _,
+            next,
+        } => next,
+        _ => place,
     }
-}
-
-// The bundle with its label.
-pub fn started(made: Made, label: &[u8], bytes: &mut [u8]) -> Made {
-    let before = made.writer;
-    let answer = bundle::start(before, label, bytes);
-    let number = answer.number;
-    let writer = answer.session;
-    let mut none = [0u8; 0];
-    followed(made, number, writer, &bytes[..], b"", &mut none)
-}
-
-// The bundle with one more header and body. No body of the file has more than 1,024 bytes.
-pub fn added(made: Made, header: &[u8], body: &[u8], bytes: &mut [u8]) -> Made {
-    let before = made.writer;
-    let answer = bundle::add(before, header, body, bytes);
-    let number = answer.number;
-    let writer = answer.session;
-    let mut out = [0u8; 1024];
-    let n = body.len();
-    if 1024 < n {
-        return unmade();
-    }
-    followed(made, number, writer, &bytes[..], body, &mut out[0..n])
 }
 
 // How many entries a survey finds; none where it refuses.
 fn entries(bytes: &[u8]) -> usize {
-    let answer = bundle::survey(bytes);
-    let Surveyed::Entries(n) = answer else {
-        return 0;
-    };
-    n
+    match bundle::survey(bytes) {
+        Surveyed::Entries(n) => n,
+        _ => 0,
+    }
 }
 
-// Whether the bundle is the one that is due, which has an entry for each pair of the writer's.
-pub fn is_due(made: Made, bytes: &[u8], due: &[u8]) -> bool {
-    let n = due.len();
-    if bytes.len() < n {
-        return false;
+impl Made {
+    // No entry yet, by both sessions of a key; none where the open refuses.
+    pub fn fresh(key: &[u8]) -> Option<Made> {
+        let answer = Session::open(key);
+        if answer.number != 0 {
+            return None;
+        }
+        Some(Made {
+            writer: answer.session,
+            reader: answer.session,
+            place: bundle::FIRST,
+        })
     }
-    let writer = made.writer;
-    let counted = entries(due) == writer.pairs as usize;
-    made.agrees && counted && compare::is_same(&bytes[0..n], due)
+
+    // The bundle after the writer has come to `writer`. The reader opens the entry that stands there now into an output: none where
+    // that does not then hold the body, and nothing more.
+    fn followed(self, writer: Session, bytes: &[u8], body: &[u8], out: &mut [u8]) -> Option<Made> {
+        let answer = bundle::open_entry(self.reader, bytes, self.place, out);
+        if answer.number != 0 || &out[..] != body {
+            return None;
+        }
+        Some(Made {
+            writer,
+            reader: answer.session,
+            place: after(bytes, self.place),
+        })
+    }
+
+    // The bundle with its label; none where something differs.
+    pub fn started(self, label: &[u8], bytes: &mut [u8]) -> Option<Made> {
+        let answer = bundle::start(self.writer, label, bytes);
+        if answer.number != 0 {
+            return None;
+        }
+        self.followed(answer.session, &bytes[..], b"", &mut [])
+    }
+
+    // The bundle with one more header and body; none where something differs.
+    pub fn added(self, header: &[u8], body: &[u8], bytes: &mut [u8]) -> Option<Made> {
+        let mut room = [0u8; MOST];
+        let out = room.get_mut(..body.len())?;
+        let answer = bundle::add(self.writer, header, body, bytes);
+        if answer.number != 0 {
+            return None;
+        }
+        self.followed(answer.session, &bytes[..], body, out)
+    }
+
+    // Whether the bundle is the one that is due, which has an entry for each pair of the writer's.
+    pub fn is_due(&self, bytes: &[u8], due: &[u8]) -> bool {
+        bytes.starts_with(due) && entries(due) == self.writer.pairs as usize
+    }
 }

@@ -10,8 +10,8 @@ use std::io;
 // SHA3-256 of 135 bytes 0x41 as OpenSSL and Python give it, spelled as in NIST's files.
 fn known_digest() -> [u8; 32] {
     let mut digest = [0u8; 32];
-    named::result(
-        b"MD = fb26b42ffe085f98796486a734c0639a8935a7845268ac2be76b6655d86d1d65",
+    let _ = named::decode(
+        b"fb26b42ffe085f98796486a734c0639a8935a7845268ac2be76b6655d86d1d65",
         &mut digest,
     );
     digest
@@ -27,7 +27,7 @@ fn ends_in_0x86() -> bool {
     let mut digest = [0u8; 32];
     sponge::put_bytes(state, &mut digest);
     let known = known_digest();
-    compare::is_same(&digest, &known) && compare::is_same(&sponge::sha3_256(&message), &known)
+    digest == known && sponge::sha3_256(&message) == known
 }
 
 // What an open with a key of n bytes answers.
@@ -41,23 +41,22 @@ fn opened_by(key: &[u8]) -> u8
 // A key of 15, 16, 256, 257 bytes: 2, open, open, 2.
 fn keys_have_limits() -> bool {
     let key = [0x41u8; 257];
-    let short = opened_by(&key[0..15]);
-    let least = opened_by(&key[0..16]);
-    let most = opened_by(&key[0..256]);
-    let long = opened_by(&key[0..257]);
-    short == 2 && least == 0 && most == 0 && long == 2
+    opened_by(&key[..15]) == 2
+        && opened_by(&key[..16]) == 0
+        && opened_by(&key[..256]) == 0
+        && opened_by(&key) == 2
 }
 
 // Every example, a line each.
 pub fn print_all(rt: &impl Print) -> io::Result<()> {
     tally::print_example(
         rt,
-        b"SHA3-256 of 135 bytes: last block byte 135 is 0x86",
+        "SHA3-256 of 135 bytes: last block byte 135 is 0x86",
         ends_in_0x86(),
     )?;
     tally::print_example(
         rt,
-        b"Key of 15, 16, 256, 257 bytes: 2, open, open, 2   ",
+        "Key of 15, 16, 256, 257 bytes: 2, open, open, 2   ",
         keys_have_limits(),
     )
 }

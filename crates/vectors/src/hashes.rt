@@ -1,6 +1,6 @@
 // The functions under test, under one name.
 ghost use Rattle.std.specs.Prelude.{◌≡◌, ◌≤◌, take};
-ghost use Rattle.vectors.specs.Chains.{carried, hashed, widened};
+ghost use Rattle.vectors.specs.Chains.{carried, hashed};
 
 // Which function.
 #[derive(Clone, Copy)]
@@ -10,15 +10,6 @@ pub enum Hash {
     Shake256,
 }
 
-// A digest in the front of 256 zeros.
-fn widened(digest: [u8; 32]) -> [u8; 256]
-    ensures { result ≡ widened 32 digest }
-{
-    let mut out = [0u8; 256];
-    out[0..32].copy_from_slice(&digest);
-    out
-}
-
 // The hash of a message in the front of 256 zeros: `n` bytes of it, and of SHA3-256 always 32.
 pub fn hashed(hash: Hash, message: &[u8], n: usize) -> [u8; 256]
     requires { n ≤ 256 }
@@ -26,15 +17,9 @@ pub fn hashed(hash: Hash, message: &[u8], n: usize) -> [u8; 256]
 {
     let mut out = [0u8; 256];
     match hash {
-        Hash::Sha3_256 => {
-            return widened(sponge::sha3_256(message));
-        }
-        Hash::Shake128 => {
-            sponge::shake128(message, &mut out[0..n]);
-        }
-        Hash::Shake256 => {
-            sponge::shake256(message, &mut out[0..n]);
-        }
+        Hash::Sha3_256 => out[..32].copy_from_slice(&sponge::sha3_256(message)),
+        Hash::Shake128 => sponge::shake128(message, &mut out[..n]),
+        Hash::Shake256 => sponge::shake256(message, &mut out[..n]),
     }
     out
 }
@@ -45,8 +30,7 @@ fn carried(hash: Hash) -> usize
 {
     match hash {
         Hash::Sha3_256 => 32,
-        Hash::Shake128 => 16,
-        Hash::Shake256 => 16,
+        Hash::Shake128 | Hash::Shake256 => 16,
     }
 }
 
@@ -55,6 +39,5 @@ pub fn chained(hash: Hash, last: [u8; 256], n: usize) -> [u8; 256]
     requires { n ≤ 256 }
     ensures { result ≡ hashed hash (take (carried hash) last) n }
 {
-    let end = carried(hash);
-    hashed(hash, &last[0..end], n)
+    hashed(hash, &last[..carried(hash)], n)
 }

@@ -1,135 +1,70 @@
-// The lines of a file, through a buffer that is refilled.
-ghost use Rattle.std.specs.Prelude.{◌≡◌, ◌≢◌, ℕ, ◌<◌, ◌≤◌, length, slice_index};
+// The lines of a file, one after the other, through a buffer that is refilled.
+ghost use Rattle.std.specs.Prelude.{◌≡◌, ◌≤◌, length, take, IfSome};
 ghost use Rattle.vectors.specs.Bounds.{Part};
 ghost use Rattle.vectors.specs.Spelled.{line_end};
 
 use std::io::Read;
 
-// Which part of the buffer holds bytes that were read from the file and not yet handed out.
-#[derive(Clone, Copy)]
-pub struct Unread {
-    pub start: usize,
-    pub end: usize,
+// A file, and the part of the buffer that holds bytes which were read from it and not yet handed out.
+#[derive(Drop)]
+pub struct Lines<'a, R: Read> {
+    file: R,
+    buffer: &'a mut [u8],
+    start: usize,
+    end: usize,
+    ghost unread: { Part start end buffer.now },
 }
 
-// Where a line stands in the buffer, without the newline that ends it (or the return and newline), and what is still unread behind it.
-#[derive(Clone, Copy)]
-pub struct Line {
-    pub is_there: bool,
-    pub start: usize,
-    pub end: usize,
-    pub rest: Unread,
-}
-
-// Moves what is unread to the front of the buffer.
-fn move_to_front(buffer: &mut [u8], start: usize, end: usize)
-    requires { Part start end buffer.old }
+// A line without the return at its end, if there is one.
+fn without_return(line: &[u8]) -> &[u8]
+    ensures { result.now ≡ take (line_end 0 (length line.now) line.now) line.now }
 {
-    let n = end - start;
-    let mut i = 0;
-    while i < n {
-        buffer[i] = buffer[start + i];
-        i += 1;
+    match line {
+        [front @ .., b'\r'] => front,
+        _ => line,
     }
 }
 
-// Reads until the buffer is full, the file ends or a read fails, and answers how many bytes that put to the front of the buffer.
-fn read_full(file: &mut impl Read, buffer: &mut [u8]) -> usize
-    ensures { result ≤ length buffer.new }
-{
-    let mut done = 0;
-    while done < buffer.len() {
-        let Ok(n) = file.read(&mut buffer[done..]) else {
-            break;
+impl<'a, R: Read> Lines<'a, R> {
+    pub fn new(file: R, buffer: &'a mut [u8]) -> Lines<'a, R> {
+        Lines {
+            file,
+            buffer,
+            start: 0,
+            end: 0,
+        }
+    }
+
+    // Takes the first line out of what is unread, and answers where it stands; none where no newline is there.
+    fn first(&mut self) -> Option<(usize, usize)>
+        ensures { IfSome result (λ line. Part line.0 line.1 self.new.buffer.now) }
+    {
+        let start = self.start;
+        let unread = &self.buffer[start..self.end];
+        let at = unread.iter().position(|b| *b == b'\n')?;
+        let line = without_return(&unread[..at]);
+        self.start = start + at + 1;
+        Some((start, start + line.len()))
+    }
+
+    // Keeps what is unread and fills the buffer up behind it from the file.
+    fn refill(&mut self) {
+        let kept = self.end - self.start;
+        self.buffer.copy_within(self.start..self.end, 0);
+        self.start = 0;
+        self.end = kept + reading::read_full(&mut self.file, &mut self.buffer[kept..]);
+    }
+
+    // The next line of the file, without the newline that ends it (or the return and newline). There is none at the end of the
+    // file, and none where a line is longer than the buffer.
+    pub fn next(&mut self) -> Option<&[u8]> {
+        let (start, end) = match self.first() {
+            Some(line) => line,
+            None => {
+                self.refill();
+                self.first()?
+            }
         };
-        if n == 0 {
-            break;
-        }
-        done += n;
+        Some(&self.buffer[start..end])
     }
-    done
-}
-
-// Keeps what is unread and fills the buffer up behind it from the file.
-fn refilled(file: &mut impl Read, buffer: &mut [u8], unread: Unread) -> Unread
-    requires { Part unread.start unread.end buffer.old }
-    ensures { Part result.start result.end buffer.new }
-{
-    let start = unread.start;
-    let end = unread.end;
-    move_to_front(buffer, start, end);
-    let kept = end - start;
-    let got = read_full(file, &mut buffer[kept..]);
-    Unread {
-        start: 0,
-        end: kept + got,
-    }
-}
-
-// The first place from `start` on that holds `b`; `end` where none before it does.
-fn find(buffer: &[u8], start: usize, end: usize, b: u8) -> usize
-    requires { Part start end buffer.now }
-    ensures within { (start ≤ result) × (result ≤ end) }
-    ensures before { (k : ℕ) → start ≤ k → k < result → slice_index buffer.now k ≢ b }
-    ensures found { result < end → slice_index buffer.now result ≡ b }
-{
-    let mut i = start;
-    while i < end {
-        if buffer[i] == b {
-            return i;
-        }
-        i += 1;
-    }
-    end
-}
-
-// The first line of what is unread; none where no newline is there.
-fn first(buffer: &[u8], unread: Unread) -> Line
-    requires { Part unread.start unread.end buffer.now }
-    ensures { Part result.start result.end buffer.now × Part result.rest.start result.rest.end buffer.now }
-{
-    let start = unread.start;
-    let end = unread.end;
-    let at = find(buffer, start, end, b'\n');
-    if at == end {
-        return Line {
-            is_there: false,
-            start,
-            end: start,
-            rest: unread,
-        };
-    }
-    let next = at + 1;
-    Line {
-        is_there: true,
-        start,
-        end: without_return(buffer, start, at),
-        rest: Unread { start: next, end },
-    }
-}
-
-// Where the text of a line ends whose newline is at `at`: before the return, if there is one.
-fn without_return(buffer: &[u8], start: usize, at: usize) -> usize
-    requires { Part start at buffer.now }
-    ensures { (result ≡ line_end start at buffer.now) × (start ≤ result) × (result ≤ at) }
-{
-    if start < at {
-        if buffer[at - 1] == b'\r' {
-            return at - 1;
-        }
-    }
-    at
-}
-
-// The next line of the file. There is none at the end of the file, and none where a line is longer than the buffer.
-pub fn next(file: &mut impl Read, buffer: &mut [u8], unread: Unread) -> Line
-    requires { Part unread.start unread.end buffer.old }
-    ensures { Part result.start result.end buffer.new × Part result.rest.start result.rest.end buffer.new }
-{
-    let line = first(buffer, unread);
-    if line.is_there {
-        return line;
-    }
-    let more = refilled(file, buffer, unread);
-    first(buffer, more)
 }

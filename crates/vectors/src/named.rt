@@ -1,152 +1,85 @@
 // The fields of a line: a name, and a number or bytes in hexadecimal digits after it.
-ghost use Rattle.std.specs.Prelude.{◌≡◌, ◌≤◌, length};
+ghost use Rattle.std.specs.Prelude.{◌≡◌, ◌≤◌, ◌<◌, [], length, MatchOption, IfSome};
 ghost use Rattle.vectors.specs.Spelled.{byte, digit, is_named, number_after, number_from, value};
 
 // Whether the line starts with the name.
+#[tactic(auto, using(crate::proofs::Spelled::named_is))]
 pub fn is_named(line: &[u8], name: &[u8]) -> bool
     ensures { result ≡ is_named line.now name.now }
 {
-    let n = name.len();
-    if line.len() < n {
-        return false;
-    }
-    compare::is_same(&line[0..n], name)
+    line.starts_with(name)
 }
 
-// What follows the name; nothing where the line has another.
-fn value<'a>(line: &'a [u8], name: &[u8]) -> &'a [u8]
-    ensures { result.now ≡ value line.now name.now }
+// What follows the name; none where the line has another, or nothing follows.
+#[tactic(auto, using(crate::proofs::Spelled::value_other, crate::proofs::Spelled::value_named, crate::proofs::Spelled::value_empty))]
+pub fn value<'a>(line: &'a [u8], name: &[u8]) -> Option<&'a [u8]>
+    ensures { MatchOption result (value line.now name.now ≡ []) (λ v. (v.now ≡ value line.now name.now) × (0 < length v.now)) }
 {
-    if !is_named(line, name) {
-        return &line[0..0];
-    }
-    let n = name.len();
-    &line[n..]
+    let after = line.strip_prefix(name)?;
+    if after.is_empty() { None } else { Some(after) }
 }
 
-// The value of a digit, 16 where the byte is none.
-fn digit(b: u8) -> u8
-    ensures { (result ≡ digit b) × (result ≤ 16) }
+// The value of a digit; none where the byte is no digit.
+fn digit(b: u8) -> Option<u8>
+    ensures { MatchOption result (digit b ≡ 16) (λ d. (d ≡ digit b) × (d < 16)) }
 {
     match b {
-        b'0'..=b'9' => b - b'0',
-        b'a'..=b'f' => b - b'a' + 10,
-        _ => 16,
+        b'0'..=b'9' => Some(b - b'0'),
+        b'a'..=b'f' => Some(b - b'a' + 10),
+        _ => None,
     }
 }
 
 // The decimal number that the text starts with. The largest of the files is below a million.
+#[tactic(auto, using(crate::proofs::Spelled::read_none, crate::proofs::Spelled::read_more, crate::proofs::Spelled::read_stop, crate::proofs::Spelled::read_all))]
 fn number(text: &[u8]) -> usize
     ensures { result ≡ number_from 0 text.now }
 {
-    let mut n: usize = 0;
-    let mut i = 0;
-    while i < text.len() {
-        let d = digit(text[i]);
-        if 9 < d {
+    let mut n = 0;
+    for b in text {
+        let Some(d @ 0..=9) = digit(*b) else {
             return n;
-        }
+        };
         if 999_999 < n {
             return n;
         }
         n = 10 * n + d as usize;
-        i += 1;
     }
     n
 }
 
-// The byte that two digits spell, 256 where they spell none.
-fn byte(high: u8, low: u8) -> u16
-    ensures { (result ≡ byte high low) × (result ≤ 256) }
+// The byte that two digits spell; none where they spell none.
+#[tactic(auto, using(crate::proofs::Spelled::byte_no_high, crate::proofs::Spelled::byte_no_low, crate::proofs::Spelled::byte_both))]
+fn byte(high: u8, low: u8) -> Option<u8>
+    ensures { MatchOption result (byte high low ≡ 256) (λ b. b ≡ byte high low) }
 {
-    let h = digit(high);
-    let l = digit(low);
-    if 15 < h {
-        return 256;
-    }
-    if 15 < l {
-        return 256;
-    }
-    16 * h as u16 + l as u16
+    Some(16 * digit(high)? + digit(low)?)
 }
 
-// Puts the bytes that the digits spell to the front of `out` and answers how many there are, 0 where the text is not whole
+// Puts the bytes that the digits spell to the front of `out` and answers how many there are; none where the text is not whole
 // bytes or `out` is too short.
-fn decode(digits: &[u8], out: &mut [u8]) -> usize
-    ensures { result ≤ length out.new }
+pub fn decode(digits: &[u8], out: &mut [u8]) -> Option<usize>
+    ensures { IfSome result (λ n. n ≤ length out.new) }
 {
-    let n = digits.len() / 2;
-    if digits.len() % 2 != 0 {
-        return 0;
+    let (pairs, rest) = digits.as_chunks::<2>();
+    if !rest.is_empty() || out.len() < pairs.len() {
+        return None;
     }
-    if out.len() < n {
-        return 0;
+    for (i, [high, low]) in pairs.iter().enumerate() {
+        out[i] = byte(*high, *low)?;
     }
-    let mut i = 0;
-    while i < n {
-        let b = byte(digits[2 * i], digits[2 * i + 1]);
-        if 255 < b {
-            return 0;
-        }
-        out[i] = b as u8;
-        i += 1;
-    }
-    n
+    Some(pairs.len())
 }
 
 // The number of the named field, or what it was before where the line has another.
+#[tactic(auto, using(crate::proofs::Spelled::number_none, crate::proofs::Spelled::number_some))]
 pub fn number_after(line: &[u8], name: &[u8], before: usize) -> usize
     ensures { result ≡ number_after line.now name.now before }
 {
-    let text = value(line, name);
-    if text.len() == 0 {
-        before
-    } else {
-        number(text)
-    }
+    value(line, name).map_or(before, number)
 }
 
-// The bytes of the named field, put to the front of `out`, and how many there are; or, where the line has another, as many as
-// there were before.
-pub fn bytes_after(line: &[u8], name: &[u8], out: &mut [u8], before: usize) -> usize
-    requires { before ≤ length out.old }
-    ensures { result ≤ length out.new }
-{
-    let text = value(line, name);
-    if text.len() == 0 {
-        before
-    } else {
-        decode(text, out)
-    }
-}
-
-// The same for a field that may be empty, and whose name is given without the blank at its end.
-pub fn text_after(line: &[u8], name: &[u8], out: &mut [u8], before: usize) -> usize
-    requires { before ≤ length out.old }
-    ensures { result ≤ length out.new }
-{
-    if !is_named(line, name) {
-        return before;
-    }
-    let n = name.len();
-    if line.len() <= n {
-        return 0;
-    }
-    let start = n + 1;
-    decode(&line[start..], out)
-}
-
-// Whether a line ends a case: it has the digest or the output.
-pub fn is_result(line: &[u8]) -> bool {
-    let digest = value(line, b"MD = ");
-    let output = value(line, b"Output = ");
-    digest.len() > 0 || output.len() > 0
-}
-
-// The digest or the output of a line.
-pub fn result(line: &[u8], out: &mut [u8]) -> usize
-    ensures { result ≤ length out.new }
-{
-    let n = bytes_after(line, b"MD = ", out, 0);
-    bytes_after(line, b"Output = ", out, n)
+// The digits of a line that ends a case: of its digest or its output. None where the line has neither.
+pub fn result(line: &[u8]) -> Option<&[u8]> {
+    value(line, b"MD = ").or(value(line, b"Output = "))
 }

@@ -5,25 +5,14 @@ ghost use Rattle.vectors.specs.Bounds.{differing, more};
 use std::io;
 
 // How many cases were run, how many agreed, and which was the first that did not, counted from 0 as NIST's COUNT is.
-#[derive(Clone, Copy)]
+#[derive(Clone, Copy, Default)]
 pub struct Tally {
     pub run: u64,
     pub agreed: u64,
-    pub first: u64,
+    pub first: Option<u64>,
 }
 
 impl Tally {
-    // No case yet.
-    pub fn none() -> Tally
-        ensures { (result.run ≡ 0) × (result.agreed ≡ 0) × (result.first ≡ 0) }
-    {
-        Tally {
-            run: 0,
-            agreed: 0,
-            first: 0,
-        }
-    }
-
     // One more case. It counts as agreeing only where it agrees.
     pub fn counted(self, agrees: bool) -> Tally
         requires { (self.agreed ≤ self.run) × (self.run < 65536) }
@@ -44,63 +33,35 @@ impl Tally {
     }
 
     // The first that differs once one more does: that one, where all before agreed.
-    fn first_differing(self) -> u64
+    fn first_differing(self) -> Option<u64>
         ensures { result ≡ differing false self }
     {
         if self.agreed == self.run {
-            return self.run;
+            Some(self.run)
+        } else {
+            self.first
         }
-        self.first
     }
 }
 
-// Writes a text to standard output.
-fn print(rt: &impl Print, text: &[u8]) -> io::Result<()> {
-    rt.write_all(text)
-}
-
-// A file's name in a column of 23, the longest.
-fn print_name(rt: &impl Print, text: &[u8]) -> io::Result<()> {
-    print(rt, text)?;
-    let blanks = [b' '; 23];
-    let n = text.len();
-    if n <= 23 {
-        print(rt, &blanks[n..])?;
+// The line of a file: its name in a column of 23, the longest, and its numbers in columns of 7.
+pub fn print_tally(rt: &impl Print, name: &str, tally: Tally) -> io::Result<()> {
+    let run = tally.run;
+    let agreed = tally.agreed;
+    print!(rt; "{name:23}{run:>7} cases{agreed:>7} agree")?;
+    if let Some(first) = tally.first {
+        print!(rt; "   first differs: case {first}")?;
     }
-    Ok(())
-}
-
-// A number in a column of 7.
-fn print_number(rt: &impl Print, n: u64) -> io::Result<()> {
-    print!(rt; "{n:>7}")
-}
-
-// The line of a file.
-pub fn print_tally(rt: &impl Print, name: &[u8], tally: Tally) -> io::Result<()> {
-    print_name(rt, name)?;
-    print_number(rt, tally.run)?;
-    print(rt, b" cases")?;
-    print_number(rt, tally.agreed)?;
-    print(rt, b" agree")?;
-    if tally.agreed < tally.run {
-        print(rt, b"   first differs: case ")?;
-        rt.print(tally.first)?;
-    }
-    print(rt, b"\n")
+    println!(rt; "")
 }
 
 // The line of a file that is not there.
-pub fn print_missing(rt: &impl Print, name: &[u8]) -> io::Result<()> {
-    print_name(rt, name)?;
-    print(rt, b"   cannot be opened\n")
+pub fn print_missing(rt: &impl Print, name: &str) -> io::Result<()> {
+    println!(rt; "{name:23}   cannot be opened")
 }
 
 // The line of a worked example.
-pub fn print_example(rt: &impl Print, text: &[u8], agrees: bool) -> io::Result<()> {
-    print(rt, text)?;
-    if agrees {
-        print(rt, b"   agrees\n")
-    } else {
-        print(rt, b"   differs\n")
-    }
+pub fn print_example(rt: &impl Print, text: &str, agrees: bool) -> io::Result<()> {
+    let word = if agrees { "agrees" } else { "differs" };
+    println!(rt; "{text}   {word}")
 }

@@ -4,4 +4,4 @@ use borrow.Author.Rules.{rules}
 use Rattle.vectors.proofs.chains.linked.Goals as goal
 
 pub returns : goal.returns
-returns c = (link_is _ _ _ c.args.link _ _ c.chained-output.ensures c.next_length-next.ensures.0, search rules)
+returns c = (link_is _ _ _ c.args.link _ _ c.chained-output.ensures c.next_length.ensures.0, search rules)

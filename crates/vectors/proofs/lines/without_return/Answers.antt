@@ -1,14 +1,18 @@
--- The two tests are the definition's.
+-- The two arms are the definition's tests.
+use mathlib.Core.Path.{refl, sym, ap, ◌∙◌}
+use Prim.Native.Nat.{ℕ, ◌-◌}
 use native.Mathlib.Omega.{arith}
+use lib.ListN.{take, length}
+use lib.Seq.{take_all}
 use Rattle.vectors.proofs.Spelled.{end_is}
-use borrow.Author.Rules.{rules}
 use Rattle.vectors.proofs.lines.without_return.Goals as goal
 
-pub returns-then-buffer-at-eq13 : goal.returns-then-buffer-at-eq13
-returns-then-buffer-at-eq13 c = (end_is _ _ _ _ (λ p q. omega arith) (λ p d. absurd (d c.if-buffer-at-eq13.true)) (λ p. omega arith), search rules, search rules)
+pub returns-in-13 : goal.returns-in-13
+returns-in-13 c =
+    let l = c.args.line.now in
+    ap (λ (n : ℕ). take n l) (end_is 0 (length l) (length l - 1) l (λ p q. refl) (λ p d. omega arith) (λ p. omega arith))
 
-pub returns-else-buffer-at-eq13 : goal.returns-else-buffer-at-eq13
-returns-else-buffer-at-eq13 c = (end_is _ _ _ _ (λ p q. absurd (c.if-buffer-at-eq13.false q)) (λ p d. omega arith) (λ p. omega arith), search rules, search rules)
-
-pub returns-else-start-at : goal.returns-else-start-at
-returns-else-start-at c = (end_is _ _ _ _ (λ p q. omega arith) (λ p d. omega arith) (λ p. omega arith), search rules, search rules)
+pub returns-in_default-2 : goal.returns-in_default-2
+returns-in_default-2 c =
+    let l = c.args.line.now in
+    sym (take_all (length l) l (omega arith)) ∙ ap (λ (n : ℕ). take n l) (end_is 0 (length l) (length l) l (λ p q. omega arith) (λ p d. refl) (λ p. refl))

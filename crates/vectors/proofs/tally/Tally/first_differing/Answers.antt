@@ -1,10 +1,10 @@
 -- The test is the definition's.
-use native.Mathlib.Omega.{arith}
-use Rattle.vectors.proofs.Spelled.{equal}
+use Rattle.refusal.proofs.Rows.{rows}
+use borrow.Author.Rules.{rules}
 use Rattle.vectors.proofs.tally.Tally.first_differing.Goals as goal
 
 pub returns-then-self : goal.returns-then-self
-returns-then-self c = equal c.args.self.agreed c.args.self.run _ _ _ (λ p. omega arith) (λ p. omega arith)
+returns-then-self c = search (rules, rows)
 
-pub returns : goal.returns
-returns c = equal c.args.self.agreed c.args.self.run _ _ _ (λ p. omega arith) (λ p. omega arith)
+pub returns-else-self : goal.returns-else-self
+returns-else-self c = search (rules, rows)
