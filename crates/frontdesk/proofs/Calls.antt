@@ -1,49 +1,50 @@
 -- What the desk's functions answer, from what their calls ensure.
 use Prim.Native.Nat.{ℕ, suc, ◌+◌, ◌-◌, ◌<◌, ◌≤◌}
 use native.Mathlib.Omega.{arith}
-use mathlib.Core.Path.{◌≡◌, refl, sym, ap, ◌∙◌}
+use mathlib.Core.Path.{◌≡◌, sym, ap, ◌∙◌}
 use mathlib.Core.List.{List, []}
-use mathlib.Core.Bool.{Bool, true, false}
-use lib.ListN.{length, take, drop, get_or}
+use lib.ListN.{length, take, drop}
 use Rattle.refusal.specs.Rows.{by}
-use Rattle.refusal.proofs.Rows.{kept, made, taken, passed}
-use Rattle.compare.specs.Same.{same}
+use Rattle.refusal.specs.Numbers.{number_of}
+use Rattle.refusal.proofs.Numbers.{numbered_refusal}
+use Rattle.refusal.proofs.Rows.{kept, made}
+use Rattle.std.specs.Prelude.{Ok, Err, Option, Some, None}
 use Rattle.spongewrap.specs.Desk.{desk}
-use Rattle.spongewrap.specs.Sessions.{wraps, unwraps, Seen, seen}
+use Rattle.spongewrap.specs.Sessions.{Answer, wraps, unwraps, Seen, seen}
 use Rattle.spongewrap.specs.declared.Session.{Session}
-use Rattle.spongewrap.specs.declared.Answer.{Answer}
 use Rattle.bundle.specs.declared.Entry.{Entry}
-use Rattle.bundle.specs.declared.Entry.TheVariants.{Whole}
-use Rattle.bundle.specs.declared.Surveyed.{Surveyed}
-use Rattle.bundle.specs.declared.Surveyed.TheVariants.{Entries, Refused}
-use Rattle.bundle.specs.declared.Reply.{Reply}
-use Rattle.bundle.specs.Answers.{Told, entry_told, survey_told}
-use Rattle.bundle.specs.Format.{version1, header_length, header_at, entry_at}
+use Rattle.bundle.specs.declared.NoEntry.{NoEntry}
+use Rattle.bundle.specs.declared.Fault.{Fault}
+use Rattle.bundle.specs.declared.Opened.{Opened}
+use Rattle.bundle.specs.declared.Refused.{Refused}
+use Rattle.bundle.specs.Answers.{Told, Reply, survey_told, opened_reply}
+use Rattle.bundle.specs.Format.{version1, header_length, entry_at}
 use Rattle.bundle.proofs.Entries.{whole_at}
-use Rattle.frontdesk.specs.Day.{dots, bundle_session, whole_header, opens_at, opens_from, opens_bundle, sealed_pair, opens_pair}
+use Rattle.frontdesk.specs.Day.{dots, bundle_session, surveyed, whole_header, opens_at, opens_from, opens_labelled, opens_bundle, sealed_pair, opens_pair}
 
 -- ---- a survey
 
-pub survey_count : {a : Surveyed} {t : Told} {n : ℕ} → survey_told a ≡ t → a ≡ Entries n → n ≡ get_or t.values 0 0
-survey_count e f = rw (← e, f)
+pub survey_counted : {t : Told} (n : ℕ) → survey_told (Ok n) ≡ t → Some n ≡ surveyed t
+unfolding by
+survey_counted n e = rw (← e)
 
-pub survey_refused : {a : Surveyed} {t : Told} {n p : ℕ} → survey_told a ≡ t → a ≡ Refused n p → 0 ≡ get_or t.values 0 0
-survey_refused e f = rw (← e, f)
+pub survey_refused : {t : Told} (f : Fault) → survey_told (Err f) ≡ t → None ≡ surveyed t
+survey_refused f e = rw (← e) (sym (kept {A = Option ℕ} (number_of f.refusal) None _ (numbered_refusal f.refusal)))
 
 -- ---- the header of an entry
 
-pub header_none : (e : Entry) (b : List ℕ) (place : ℕ) → e ≡ entry_at version1 b place → ((entry_told e place).number ≡ 0 → ⊥) → [] ≡ whole_header b place
-unfolding whole_header
-header_none e b place f w = rw (← f) (sym (kept (entry_told e place).number [] (header_at b place) w))
-
-pub header_whole : (b : List ℕ) (place h m n : ℕ) → entry_at version1 b place ≡ Whole h m n
-    → take (n - 16 - m - (n - 16 - m - h)) (drop (n - 16 - m - h) b) ≡ whole_header b place
+pub header_none : (b : List ℕ) (place : ℕ) (cause : NoEntry) → Err cause ≡ entry_at version1 b place → [] ≡ whole_header b place
 unfolding whole_header by
-header_whole b place h m n e =
-    let w = whole_at version1 b place h m n e in
-    let start : n - 16 - m - h ≡ place + 6 = omega arith in
-    let long : n - 16 - m - (place + 6) ≡ header_length b place = omega arith in
-    rw (e, start, long)
+header_none b place cause f = rw (← f)
+
+pub header_whole : (b : List ℕ) (place : ℕ) (e : Entry) → Ok e ≡ entry_at version1 b place
+    → take (e.next - 16 - e.body - (e.next - 16 - e.body - e.header)) (drop (e.next - 16 - e.body - e.header) b) ≡ whole_header b place
+unfolding whole_header by
+header_whole b place e f =
+    let w = whole_at version1 b place e (sym f) in
+    let start : e.next - 16 - e.body - e.header ≡ place + 6 = omega arith in
+    let long : e.next - 16 - e.body - (place + 6) ≡ header_length b place = omega arith in
+    rw (← f, start, long)
 
 -- ---- entry after entry
 
@@ -64,21 +65,14 @@ unfolding opens_from
 turn_last s t b place k n e l = let none : n - k ≡ 0 = omega arith in rw none at e
 
 -- entry zero, and its label
-module _ (key label b : List ℕ) (n : ℕ) (s : Session) {a : Reply} (es : s ≡ bundle_session key) (e : a ≡ opens_at s b 5) where
-  pub zero_stops : (a.number ≡ 0 → ⊥) → a.session ≡ opens_bundle key label b n
+module _ (key label b : List ℕ) (n : ℕ) (s : Session) (es : s ≡ bundle_session key) where
+  pub zero_stops : (r : Refused) → opened_reply (Err r) ≡ opens_at s b 5 → r.session ≡ opens_bundle key label b n
   unfolding opens_bundle
-  zero_stops w = rw (← es, ← e) (sym (kept a.number a.session _ w))
+  zero_stops r e = rw (← es, ← e) (sym (kept {A = Session} (number_of r.fault.refusal) r.session _ (numbered_refusal r.fault.refusal)))
 
-  module _ (h : List ℕ) {x : Bool} (z : a.number ≡ 0) (eh : h ≡ whole_header b 5) (ex : x ≡ same h label) where
-    pub other_label : x ≡ false → a.session ≡ opens_bundle key label b n
-    unfolding opens_bundle
-    other_label f =
-        rw (← es, ← e, ← eh, ← ex) (passed {A = Session} _ f refl ∙ sym (made a.number a.session _ z))
-
-    pub right_label : {r : Session} → x ≡ true → r ≡ opens_from (n - 1) a.session b a.next → r ≡ opens_bundle key label b n
-    unfolding opens_bundle
-    right_label f er =
-        rw (← es, ← e, ← eh, ← ex) (er ∙ taken {A = Session} _ a.session f ∙ sym (made a.number a.session _ z))
+  pub zero_opens : (zero : Opened) {r : Session} → opened_reply (Ok zero) ≡ opens_at s b 5 → r ≡ opens_labelled zero label b n → r ≡ opens_bundle key label b n
+  unfolding opens_bundle by
+  zero_opens zero e er = rw (← es, ← e) er
 
 -- ---- a pair outside a bundle
 

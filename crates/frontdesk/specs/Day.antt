@@ -1,13 +1,16 @@
 -- What the calls of desk and office answer (document 01, "Bundle, version 1" and "SpongeWrap").
-use Rattle.std.specs.Prelude.{ℕ, zero, suc, ◌-◌, List, [], take, drop, replicate}
+use Rattle.std.specs.Prelude.{ℕ, zero, suc, ◌-◌, List, [], take, drop, replicate, get_or, Result, Option, Some, None}
+use Rattle.std.specs.Option.{unwrap_or}
 use Rattle.refusal.specs.Rows.{by, pick}
 use Rattle.compare.specs.Same.{same}
 use Rattle.spongewrap.specs.Desk.{desk}
 use Rattle.spongewrap.specs.Sessions.{opens, wraps, unwraps}
 use Rattle.spongewrap.specs.declared.Session.{Session}
-use Rattle.bundle.specs.declared.Reply.{Reply}
+use Rattle.bundle.specs.declared.Opened.{Opened}
+use Rattle.bundle.specs.declared.Refused.{Refused}
 use Rattle.bundle.specs.Format.{version1, bundle_rate, header_at, entry_at}
-use Rattle.bundle.specs.Answers.{entry_told}
+use Rattle.bundle.specs.Answers.{Told, Reply, entry_told, session_reply}
+use Rattle.bundle.specs.Writing.{end_in}
 use Rattle.bundle.specs.Opening.{opens_entry}
 
 -- the output that each call is lent
@@ -18,7 +21,21 @@ dots = replicate 256 46
 abbrev pub bundle_session : List ℕ → Session
 bundle_session key = (opens desk key bundle_rate version1.tag).session
 
--- ---- the desk opens entries
+-- ---- the office seals entries
+
+-- the session that a call left
+abbrev pub left : Result Session Refused → Session
+left answer = (session_reply answer).session
+
+-- where the bundle in a buffer ends; 0 where none stands there
+abbrev pub bundle_end : List ℕ → ℕ
+bundle_end d = unwrap_or (end_in d) 0
+
+-- ---- the desk surveys a bundle and opens entries
+
+-- how many entries a survey found; none where it refused
+abbrev pub surveyed : Told → Option ℕ
+surveyed t = by t.number None (Some (get_or t.values 0 0))
 
 -- the header of the entry at a place; empty where no entry is whole
 unfoldable pub whole_header : List ℕ → ℕ → List ℕ
@@ -34,11 +51,13 @@ opens_from (suc n) s b place =
     by (opens_at s b place).number (opens_at s b place).session
     (opens_from n (opens_at s b place).session b (opens_at s b place).next)
 
--- the session after a bundle of n entries, by the reply r to the opening of entry zero: the others follow under the label that is expected
+-- the session after a bundle of n entries whose entry zero has opened: the others follow under the label that is expected
+abbrev pub opens_labelled : Opened → List ℕ → List ℕ → ℕ → Session
+opens_labelled o label b n = pick (same (whole_header b 5) label) (opens_from (n - 1) o.session b o.next) o.session
+
+-- the same by the reply r to the opening of entry zero
 abbrev opens_rest : Reply → List ℕ → List ℕ → ℕ → Session
-opens_rest r label b n =
-    by r.number r.session
-    (pick (same (whole_header b 5) label) (opens_from (n - 1) r.session b r.next) r.session)
+opens_rest r label b n = by r.number r.session (opens_labelled (record { next = r.next; session = r.session }) label b n)
 
 unfoldable pub opens_bundle : List ℕ → List ℕ → List ℕ → ℕ → Session
 opens_bundle key label b n = opens_rest (opens_at (bundle_session key) b 5) label b n

@@ -1,26 +1,26 @@
 // The desk: a bundle is surveyed and opened entry by entry, and what is damaged is refused.
-ghost use Rattle.std.specs.Prelude.{◌≡◌, ◌-◌, get_or};
+ghost use Rattle.std.specs.Prelude.{◌≡◌, ◌-◌};
 ghost use Rattle.bundle.specs.Format.{version1};
 ghost use Rattle.bundle.specs.Survey.{surveys};
-ghost use Rattle.frontdesk.specs.Day.{whole_header, opens_at, opens_from, opens_bundle};
+ghost use Rattle.bundle.specs.Answers.{opened_reply};
+ghost use Rattle.frontdesk.specs.Day.{surveyed, whole_header, opens_at, opens_from, opens_labelled, opens_bundle};
 
 use crate::{DOT, ROOM, lines, office};
-use bundle::{Entry, Reply, Surveyed};
+use bundle::{Opened, Refused};
 use spongewrap::Session;
 
-// Surveys a bundle, and prints what is found. Answers the number of entries, 0 where the survey refuses.
-pub fn survey(rt: &impl Print, bytes: &[u8]) -> usize
-    ensures { result ≡ get_or (surveys version1 bytes.now).values 0 0 }
+// Surveys a bundle, and prints what is found. Answers the number of entries, none where the survey refuses.
+pub fn survey(rt: &impl Print, bytes: &[u8]) -> Option<usize>
+    ensures { result ≡ surveyed (surveys version1 bytes.now) }
 {
-    let answer = bundle::survey(bytes);
-    match answer {
-        Surveyed::Entries(entries) => {
+    match bundle::survey(bytes) {
+        Ok(entries) => {
             lines::print_survey(rt, bytes.len(), entries);
-            entries
+            Some(entries)
         }
-        Surveyed::Refused { number, place } => {
-            lines::print_no_bundle(rt, number, place);
-            0
+        Err(fault) => {
+            lines::print_no_bundle(rt, fault);
+            None
         }
     }
 }
@@ -30,42 +30,52 @@ pub fn survey(rt: &impl Print, bytes: &[u8]) -> usize
 fn header_at(bytes: &[u8], place: usize) -> &[u8]
     ensures { result.now ≡ whole_header bytes.now place }
 {
-    let entry = bundle::entry_at(bytes, place);
-    let Entry::Whole { header, body, next } = entry else {
-        return &bytes[..0];
-    };
-    let end = next - bundle::TAG - body;
-    let start = end - header;
-    &bytes[start..end]
+    match bundle::entry_at(bytes, place) {
+        Ok(entry) => {
+            let end = entry.next - bundle::TAG - entry.body;
+            &bytes[end - entry.header..end]
+        }
+        Err(_) => &bytes[..0],
+    }
 }
 
 // Prints the line of an entry that was opened into `out`, or refused.
-fn show(rt: &impl Print, answer: Reply, entry: u32, bytes: &[u8], place: usize, out: &[u8]) {
-    let session = answer.session;
-    let found = bundle::entry_at(bytes, place);
-    let Entry::Whole {
-        header: _,
-        body,
-        next: _,
-    } = found
-    else {
+fn show(
+    rt: &impl Print,
+    answer: Result<Opened, Refused>,
+    entry: u32,
+    bytes: &[u8],
+    place: usize,
+    out: &[u8],
+) {
+    let Ok(found) = bundle::entry_at(bytes, place) else {
         lines::print_no_entry(rt, place);
         return;
     };
-    lines::print_entry(
+    let calls = left(answer).session.calls;
+    lines::print_entry(rt, entry, place, header_at(bytes, place), found.body, calls);
+    lines::print_outcome(
         rt,
-        entry as u64,
-        place,
-        header_at(bytes, place),
-        body,
-        session.calls,
+        answer.err().map(|refused| refused.fault.refusal),
+        out,
+        found.body,
     );
-    lines::print_outcome(rt, answer.number, out, body);
+}
+
+// What an opening left. A refused one left the session that it took, and no next place: 0.
+fn left(answer: Result<Opened, Refused>) -> Opened {
+    match answer {
+        Ok(opened) => opened,
+        Err(refused) => Opened {
+            next: 0,
+            session: refused.session,
+        },
+    }
 }
 
 // Opens the entry at a place, and prints its line.
-fn open_at(rt: &impl Print, s: Session, bytes: &[u8], place: usize) -> Reply
-    ensures { result ≡ opens_at s bytes.now place }
+fn open_at(rt: &impl Print, s: Session, bytes: &[u8], place: usize) -> Result<Opened, Refused>
+    ensures { opened_reply result ≡ opens_at s bytes.now place }
 {
     let mut out = [DOT; ROOM];
     let answer = bundle::open_entry(s, bytes, place, &mut out);
@@ -79,15 +89,14 @@ fn open_from(rt: &impl Print, s: Session, bytes: &[u8], first: usize, entries: u
 {
     let mut session = s;
     let mut place = first;
-    let mut k = 1;
-    while k < entries {
-        let answer = open_at(rt, session, bytes, place);
-        session = answer.session;
-        if answer.number != 0 {
-            return session;
+    for _ in 1..entries {
+        match open_at(rt, session, bytes, place) {
+            Ok(opened) => {
+                session = opened.session;
+                place = opened.next;
+            }
+            Err(refused) => return refused.session,
         }
-        place = answer.next;
-        k += 1;
     }
     lines::print_open(rt, session.calls);
     session
@@ -98,17 +107,22 @@ pub fn open(rt: &impl Print, key: &[u8], label: &[u8], bytes: &[u8], entries: us
     ensures { result ≡ opens_bundle key.now label.now bytes.now entries }
 {
     lines::print_opening(rt);
-    let zero = open_at(rt, office::open_session(key), bytes, bundle::FIRST);
-    let session = zero.session;
-    if zero.number != 0 {
-        return session;
+    match open_at(rt, office::open_session(key), bytes, bundle::FIRST) {
+        Ok(zero) => open_rest(rt, zero, label, bytes, entries),
+        Err(refused) => refused.session,
     }
+}
+
+// Goes on from entry zero, if its header is the label that is expected.
+fn open_rest(rt: &impl Print, zero: Opened, label: &[u8], bytes: &[u8], entries: usize) -> Session
+    ensures { result ≡ opens_labelled zero label.now bytes.now entries }
+{
     if compare::is_same(header_at(bytes, bundle::FIRST), label) {
         lines::print_label(rt);
-        return open_from(rt, session, bytes, zero.next, entries);
+        return open_from(rt, zero.session, bytes, zero.next, entries);
     }
     lines::print_other_label(rt);
-    session
+    zero.session
 }
 
 // Shows, of the session that entry 1 left, that entry 2 is refused with a changed tag, that entry 3 is refused in its place, and that
@@ -122,31 +136,23 @@ fn refuse_second(
     next: usize,
 ) {
     lines::print_damage(rt);
-    let damaged = open_at(rt, s, changed, place);
+    let damaged = left(open_at(rt, s, changed, place));
     lines::print_shift(rt);
-    let shifted = open_at(rt, damaged.session, sealed, next);
+    let shifted = left(open_at(rt, damaged.session, sealed, next));
     lines::print_mended(rt);
-    open_at(rt, shifted.session, sealed, place);
+    let _ = open_at(rt, shifted.session, sealed, place);
 }
 
 // Opens entries 0 and 1 again, and changes the last byte of entry 2, which its tag ends with.
 #[tactic(auto, using(bundle::proofs::Entries::whole_at))]
 pub fn refuse(rt: &impl Print, key: &[u8], sealed: [u8; 512]) {
     lines::print_again(rt);
-    let zero = open_at(rt, office::open_session(key), &sealed, bundle::FIRST);
-    let one = open_at(rt, zero.session, &sealed, zero.next);
-    let place = one.next;
-    let entry = bundle::entry_at(&sealed, place);
-    let Entry::Whole {
-        header: _,
-        body: _,
-        next,
-    } = entry
-    else {
+    let zero = left(open_at(rt, office::open_session(key), &sealed, bundle::FIRST));
+    let one = left(open_at(rt, zero.session, &sealed, zero.next));
+    let Ok(entry) = bundle::entry_at(&sealed, one.next) else {
         return;
     };
     let mut changed = sealed;
-    let last = next - 1;
-    changed[last] = changed[last] ^ 1;
-    refuse_second(rt, one.session, &sealed, &changed, place, next);
+    changed[entry.next - 1] ^= 1;
+    refuse_second(rt, one.session, &sealed, &changed, one.next, entry.next);
 }

@@ -7,54 +7,47 @@ ghost use Rattle.frontdesk.specs.Day.{dots, sealed_pair, opens_pair};
 use crate::{DOT, ROOM, lines};
 use spongewrap::Session;
 
-// The two running sessions, that of the side which sealed last and that of the side which opened.
-#[derive(Clone, Copy)]
-struct Sides {
-    pub sealer: Session,
-    pub opener: Session,
-}
-
 // Opens what the other side sealed, a ciphertext of n bytes and its tag, and prints the pair's line.
-fn open(rt: &impl Print, s: Session, header: &[u8], sealed: &[u8], n: usize) -> Session
+fn open(rt: &impl Print, s: &mut Session, header: &[u8], sealed: &[u8], n: usize)
     requires { n + 16 ≤ length sealed.now }
-    ensures { result ≡ opens_pair s header.now n sealed.now }
+    ensures { s.new ≡ opens_pair s.old header.now n sealed.now }
 {
     let mut out = [DOT; ROOM];
+    let pair = s.pairs;
     let end = n + bundle::TAG;
-    let done = running::unwrap_lent(s, header, &sealed[..n], &sealed[n..end], &mut out);
-    let session = done.session;
-    lines::print_pair(rt, s.pairs as u64, header, n, session.calls);
-    lines::print_outcome(rt, done.number, &out, n);
-    session
+    let done = running::unwrap_in_place(s, header, &sealed[..n], &sealed[n..end], &mut out);
+    lines::print_pair(rt, pair, header, n, s.calls);
+    lines::print_outcome(rt, done.err(), &out, n);
 }
 
 // Passes a pair from one side to the other.
-fn pass(rt: &impl Print, from: Session, to: Session, header: &[u8], body: &[u8]) -> Sides
+fn pass(rt: &impl Print, from: &mut Session, to: &mut Session, header: &[u8], body: &[u8])
     requires { length body.now ≤ 240 }
-    ensures { (result.sealer ≡ (wraps desk from header.now body.now dots).answer.session) × (result.opener ≡ opens_pair to header.now (length body.now) (sealed_pair from header.now body.now)) }
+    ensures { (from.new ≡ (wraps desk from.old header.now body.now dots).answer.session) × (to.new ≡ opens_pair to.old header.now (length body.now) (sealed_pair from.old header.now body.now)) }
 {
     let mut sealed = [DOT; ROOM];
-    let n = body.len();
-    let done = running::wrap_lent(from, header, body, &mut sealed);
-    let session = done.session;
-    lines::print_pair(rt, from.pairs as u64, header, n, session.calls);
-    lines::print_sealed(rt, done.number);
-    let opener = open(rt, to, header, &sealed, n);
-    Sides {
-        sealer: session,
-        opener,
-    }
+    let pair = from.pairs;
+    let done = running::wrap_in_place(from, header, body, &mut sealed);
+    lines::print_pair(rt, pair, header, body.len(), from.calls);
+    lines::print_sealed(rt, done.err());
+    open(rt, to, header, &sealed, body.len());
 }
 
 // The desk answers the office, and the office answers the desk.
-pub fn by_turns(rt: &impl Print, desk: Session, office: Session) {
+pub fn by_turns(rt: &impl Print, mut desk: Session, mut office: Session) {
     lines::print_receipt(rt);
-    let sides = pass(rt, desk, office, b"receipt", b"five entries, each opened");
+    pass(
+        rt,
+        &mut desk,
+        &mut office,
+        b"receipt",
+        b"five entries, each opened",
+    );
     lines::print_answer(rt);
     pass(
         rt,
-        sides.opener,
-        sides.sealer,
+        &mut office,
+        &mut desk,
         b"next bundle",
         b"reef hall, week 47",
     );

@@ -1,5 +1,7 @@
 // The lines that the front desk prints. These functions only print: they answer nothing, and write to no lent buffer.
 use crate::{DOT, ROOM};
+use bundle::Fault;
+use refusal::Refusal;
 use std::fmt::Display;
 
 // How much of a body is shown.
@@ -36,7 +38,7 @@ fn print_lengths(rt: &impl Print, header: &[u8], body: usize, calls: u64) {
 // An entry's line, up to what came of it.
 pub fn print_entry(
     rt: &impl Print,
-    entry: u64,
+    entry: u32,
     place: usize,
     header: &[u8],
     body: usize,
@@ -47,26 +49,24 @@ pub fn print_entry(
 }
 
 // The same of a pair outside a bundle.
-pub fn print_pair(rt: &impl Print, pair: u64, header: &[u8], body: usize, calls: u64) {
+pub fn print_pair(rt: &impl Print, pair: u32, header: &[u8], body: usize, calls: u64) {
     print(rt, format_args!("{pair:>7}"));
     print_lengths(rt, header, body, calls);
 }
 
 // What came of an entry: sealed, ..
-pub fn print_sealed(rt: &impl Print, number: u8) {
-    if number == 0 {
-        print(rt, "sealed\n");
-    } else {
-        print(rt, format_args!("refused {number}\n"));
+pub fn print_sealed(rt: &impl Print, refusal: Option<Refusal>) {
+    match refusal {
+        None => print(rt, "sealed\n"),
+        Some(refusal) => print(rt, format_args!("refused {refusal}\n")),
     }
 }
 
 // .. opened, or refused.
-pub fn print_outcome(rt: &impl Print, number: u8, out: &[u8], body: usize) {
-    if number == 0 {
-        print_body(rt, out, body);
-    } else {
-        print_refused(rt, number, compare::is_same(out, &[DOT; ROOM]));
+pub fn print_outcome(rt: &impl Print, refusal: Option<Refusal>, out: &[u8], body: usize) {
+    match refusal {
+        None => print_body(rt, out, body),
+        Some(refusal) => print_refused(rt, refusal, compare::is_same(out, &[DOT; ROOM])),
     }
 }
 
@@ -85,13 +85,13 @@ fn print_body(rt: &impl Print, out: &[u8], body: usize) {
 }
 
 // A refusal, and whether the lent output is as it was.
-fn print_refused(rt: &impl Print, number: u8, is_unchanged: bool) {
+fn print_refused(rt: &impl Print, refusal: Refusal, is_unchanged: bool) {
     let buffer = if is_unchanged {
         "and the lent buffer is unchanged"
     } else {
         "AND THE LENT BUFFER IS CHANGED"
     };
-    print(rt, format_args!("refused {number}, {buffer}\n"));
+    print(rt, format_args!("refused {refusal}, {buffer}\n"));
 }
 
 pub fn print_no_entry(rt: &impl Print, place: usize) {
@@ -114,10 +114,11 @@ pub fn print_survey(rt: &impl Print, bytes: usize, entries: usize) {
     );
 }
 
-pub fn print_no_bundle(rt: &impl Print, number: u8, place: usize) {
+pub fn print_no_bundle(rt: &impl Print, fault: Fault) {
+    let Fault { refusal, place } = fault;
     print(
         rt,
-        format_args!("\nThe desk surveys it: refused {number} at {place}.\n"),
+        format_args!("\nThe desk surveys it: refused {refusal} at {place}.\n"),
     );
 }
 

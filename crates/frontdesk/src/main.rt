@@ -32,30 +32,29 @@ fn main(rt: HostRuntime) {
     let key = b"a key of thirty-two bytes, fresh";
     let label = b"reef hall, week 46";
     let mut buffer = [0u8; 512];
-    let zero = office::start(&rt, key, label, &mut buffer);
-    let one = office::add(
+    let zero = office::left(office::start(&rt, key, label, &mut buffer));
+    let one = office::left(office::add(
         &rt,
-        zero.session,
+        zero,
         b"member 17",
         b"season pass, two adults",
         &mut buffer,
-    );
-    let two = office::add(&rt, one.session, b"member 17", b"locker 12", &mut buffer);
-    let three = office::add(
+    ));
+    let two = office::left(office::add(&rt, one, b"member 17", b"locker 12", &mut buffer));
+    let three = office::left(office::add(
         &rt,
-        two.session,
+        two,
         b"member 204",
         b"annual pass, two adults, a child; asked for a large-print map, for the step-free way to the reef hall, and for word of the turtle talks in the spring.",
         &mut buffer,
-    );
-    let four = office::add(&rt, three.session, b"member 5", b"", &mut buffer);
+    ));
+    let four = office::left(office::add(&rt, three, b"member 5", b"", &mut buffer));
     let bytes = office::bundle_in(&buffer);
     keep(&rt, bytes);
-    let entries = desk::survey(&rt, bytes);
-    if entries == 0 {
+    let Some(entries) = desk::survey(&rt, bytes) else {
         return;
-    }
+    };
     let opened = desk::open(&rt, key, label, bytes, entries);
     desk::refuse(&rt, key, buffer);
-    exchange::by_turns(&rt, opened, four.session);
+    exchange::by_turns(&rt, opened, four);
 }

@@ -2,7 +2,8 @@
 // Everything that matters is in the library; this reads, calls and prints.
 #![tactic(auto)]
 
-use bundle::{Entry, Surveyed};
+use bundle::Fault;
+use refusal::Refusal;
 use std::fmt::Display;
 
 // The most bytes that are listed.
@@ -13,8 +14,9 @@ fn print(rt: &impl Print, line: impl Display + Drop) {
     let _ = println!(rt; "{line}");
 }
 
-fn print_refusal(rt: &impl Print, number: u8, place: usize) {
-    print(rt, format_args!("refused {number} at {place}"));
+fn print_fault(rt: &impl Print, fault: Fault) {
+    let Fault { refusal, place } = fault;
+    print(rt, format_args!("refused {refusal} at {place}"));
 }
 
 #[tactic(auto, using(bundle::proofs::Entries::whole_at))]
@@ -28,10 +30,10 @@ fn print_entries(rt: &impl Print, bytes: &[u8], entries: usize) {
     let mut k = 0usize;
     let mut sum = 0;
     while place < bytes.len() {
-        let entry = bundle::entry_at(bytes, place);
-        let Entry::Whole { header, body, next } = entry else {
+        let Ok(entry) = bundle::entry_at(bytes, place) else {
             return;
         };
+        let bundle::Entry { header, body, next } = entry;
         let calls = bundle::calls_of(header, body);
         print(
             rt,
@@ -45,10 +47,9 @@ fn print_entries(rt: &impl Print, bytes: &[u8], entries: usize) {
 }
 
 fn list(rt: &impl Print, bytes: &[u8]) {
-    let answer = bundle::survey(bytes);
-    match answer {
-        Surveyed::Entries(entries) => print_entries(rt, bytes, entries),
-        Surveyed::Refused { number, place } => print_refusal(rt, number, place),
+    match bundle::survey(bytes) {
+        Ok(entries) => print_entries(rt, bytes, entries),
+        Err(fault) => print_fault(rt, fault),
     }
 }
 
@@ -59,7 +60,11 @@ fn main(rt: HostRuntime) {
     let mut more = [0u8; 1];
     let over = reading::read_full(&mut input, &mut more);
     if over != 0 {
-        print_refusal(&rt, refusal::NO_ROOM, bytes.len());
+        let fault = Fault {
+            refusal: Refusal::NoRoom,
+            place: bytes.len(),
+        };
+        print_fault(&rt, fault);
         return;
     }
     list(&rt, &bytes[..n]);

@@ -3,8 +3,5 @@ use Rattle.std.proofs.Common.{◌≡◌, ◌-◌}
 use Rattle.frontdesk.specs.Day.{opens_from}
 use Rattle.frontdesk.proofs.desk.open_from.Given as goal
 
-abbrev pub invariant-loop-k : goal.invariant-loop-k
-invariant-loop-k g l = opens_from (l.entries - l.k) l.session l.bytes l.place ≡ opens_from (l.entries - 1) l.initial.session l.bytes l.initial.place
-
-abbrev pub decreases-loop-k : goal.decreases-loop-k
-decreases-loop-k g l = l.entries - l.k
+abbrev pub invariant-loop : goal.invariant-loop
+invariant-loop g l = opens_from (l.entries - l.counter) l.session l.bytes l.place ≡ opens_from (l.entries - 1) l.initial.session l.bytes l.initial.place

@@ -4,5 +4,5 @@ use Rattle.frontdesk.proofs.exchange.pass.Goals as goal
 
 pub returns : goal.returns
 returns g c =
-    let e = c.wrap_lent-done.ensures in
-    (pair_sealed _ _ _ _ _ e, pair_passed _ _ _ _ _ _ e c.open-opener.ensures)
+    let e = c.wrap_in_place-done.ensures in
+    (pair_sealed _ _ _ _ _ e, pair_passed _ _ _ _ _ _ e c.open.ensures)
