@@ -9,3 +9,4 @@ pub mod Outcomes
 pub mod PadBits
 pub mod Lanes
 pub mod Taken
+pub mod Words

@@ -33,7 +33,7 @@ unfolding tail
 tail_last s zero = refl
 tail_last s (suc m) = get_or_at (replicate m 0) 128 [] 0 m (length-replicate {A = ℕ} m 0)
 
-append-same : (p t u : List ℕ) (i : ℕ) → ((d : ℕ) → i ≡ length p + d → get_or t d 0 ≡ get_or u d 0) → get_or (p ++ t) i 0 ≡ get_or (p ++ u) i 0
+pub append-same : (p t u : List ℕ) (i : ℕ) → ((d : ℕ) → i ≡ length p + d → get_or t d 0 ≡ get_or u d 0) → get_or (p ++ t) i 0 ≡ get_or (p ++ u) i 0
 append-same [] t u i h = h i (sym (zero-add i))
 append-same (x ∷ p) t u zero h = refl
 append-same (x ∷ p) t u (suc i) h = append-same p t u i (λ d e. h d (omega arith))

@@ -54,26 +54,6 @@ unfolding table
 turn f d i r v e h w =
     rw (e, w, add-one, drop-cons d i 0) (set_at (table i f) (get_or d i 0) (drop (suc i) d) (f i) i (length-table i f) ∙ sym (append_snoc (table i f) (f i) (drop (suc i) d)))
 
-turn_to : (f : ℕ → ℕ) (d : List ℕ) (i n : ℕ) (r : List ℕ) (v : ℕ) → r ≡ table i f ++ drop i d → n ≡ i + 1 → i < length d → v ≡ f i
-    → set r i v ≡ table n f ++ drop n d
-turn_to f d i n r v e h l w = rw h (turn f d i r v e l w)
-
--- eight stores more
-pub turn8 : (f : ℕ → ℕ) (d : List ℕ) (i : ℕ) (r : List ℕ) (v0 v1 v2 v3 v4 v5 v6 v7 : ℕ) → r ≡ table i f ++ drop i d → i + 8 ≤ length d
-    → v0 ≡ f i → v1 ≡ f (i + 1) → v2 ≡ f (i + 2) → v3 ≡ f (i + 3) → v4 ≡ f (i + 4) → v5 ≡ f (i + 5) → v6 ≡ f (i + 6) → v7 ≡ f (i + 7)
-    → set (set (set (set (set (set (set (set r i v0) (i + 1) v1) (i + 2) v2) (i + 3) v3) (i + 4) v4) (i + 5) v5) (i + 6) v6) (i + 7) v7 ≡ table (i + 8) f ++ drop (i + 8) d
-turn8 f d i r v0 v1 v2 v3 v4 v5 v6 v7 e l w0 w1 w2 w3 w4 w5 w6 w7 =
-    turn_to f d (i + 7) (i + 8) _ v7
-    (turn_to f d (i + 6) (i + 7) _ v6
-    (turn_to f d (i + 5) (i + 6) _ v5
-    (turn_to f d (i + 4) (i + 5) _ v4
-    (turn_to f d (i + 3) (i + 4) _ v3
-    (turn_to f d (i + 2) (i + 3) _ v2
-    (turn_to f d (i + 1) (i + 2) _ v1
-    (turn_to f d i (i + 1) r v0 e refl (omega arith) w0) (omega arith) (omega arith) w1) (omega arith) (omega arith) w2)
-    (omega arith) (omega arith) w3) (omega arith) (omega arith) w4) (omega arith) (omega arith) w5) (omega arith) (omega arith) w6)
-    (omega arith) (omega arith) w7
-
 -- nothing of d is left
 pub whole : (x y d : List ℕ) (n : ℕ) → x ≡ y ++ drop n d → length d ≤ n → x ≡ y
 whole x y d n e h = rw (e, drop_of_length-le d h, append-nil)

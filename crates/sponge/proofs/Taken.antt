@@ -7,10 +7,10 @@ use Prim.Native.Nat.{ℕ, zero, suc, ◌+◌, ◌-◌, ◌*◌, ◌/◌, ◌^◌
 use native.Mathlib.Nat.{zero-mul, add-mul, mul-suc, mul-le-mul_left, eq-or-lt_of_le, le_refl, not-suc-le-zero, le_of_suc-le-suc}
 use native.Mathlib.Numerals.{add-one}
 use native.Mathlib.Omega.{arith}
-use lib.Pow.{pow_mono, pow-add}
+use lib.Pow.{pow-add}
 use lib.Bits.{bit_xor, xor_zero_l, xor_zero_r}
-use lib.ListN.{length, take, drop, get_or, set, length-take, length-drop, length-append, get_or-append}
-use lib.Seq.{take_all, take-append-le, drop-append_seam, drop-cons, get_or-drop}
+use lib.ListN.{length, take, drop, get_or, set, length-take, length-drop, length-append}
+use lib.Seq.{take_all, take-append-le, get_or-drop}
 use Rattle.keccak.specs.Lanes.{sum}
 use Rattle.sponge.specs.Bytes.{lane_of, mixed}
 use Rattle.sponge.specs.Padding.{padded}
@@ -75,28 +75,6 @@ unfolding lane_of
 lane_rest w b j i x e h f =
     rw (← e)
     (f ∙ sym (sum_ext _ _ (w / 8) (λ m _. ap (λ (y : ℕ). y * 2 ^ (8 * m)) (sym (get_or-drop i b m 0))) ∙ sum_number (w / 8) (drop i b) (omega (arith, length-drop i b))))
-
--- from the byte after the piece on, and one byte further to the front
-pub number_end : (p : List ℕ) (s : ℕ) → s ≡ number (drop (length p) (p ++ (s ∷ [])))
-unfolding number
-number_end p s = rw (drop-append_seam p (s ∷ [])) (omega arith)
-
-pub number_back : (p : List ℕ) (s i x y : ℕ) → x ≡ number (drop i (p ++ (s ∷ []))) → 0 < i → i ≤ length p → y ≡ get_or p (i - 1) 0
-    → x * 256 + y ≡ number (drop (i - 1) (p ++ (s ∷ [])))
-unfolding number
-number_back p s i x y e z h g =
-    let b : List ℕ = p ++ (s ∷ []) in
-    let n : suc (i - 1) ≡ i = omega arith in
-    let k : i - 1 < length b = omega (arith, length-append p (s ∷ [])) in
-    rw (drop-cons b (i - 1) 0 k ∙ ap (λ (m : ℕ). get_or b (i - 1) 0 ∷ drop m b) n, ← e) (omega (arith, get_or-append p (s ∷ []) 0 (i - 1) (omega arith)))
-
-pub fits_back : (n i x y : ℕ) → x < 2 ^ (8 * (n - i) + 7) → 0 < i → i ≤ n → y < 256 → x * 256 + y < 2 ^ (8 * (n - (i - 1)) + 7)
-fits_back n i x y h z l k =
-    let e : 8 * (n - (i - 1)) + 7 ≡ 8 * (n - i) + 7 + 8 = omega arith in
-    rw (e, pow-add 2 (8 * (n - i) + 7) 8) (omega arith)
-
-pub fits_lane : (n i x v : ℕ) → x < 2 ^ (8 * (n - i) + 7) → n - i ≤ v → x < 2 ^ (8 * v + 7)
-fits_lane n i x v h l = omega (arith, pow_mono {i = 8 * (n - i) + 7} {j = 8 * v + 7} (omega arith))
 
 -- after the whole lanes of a piece, the lane k where it ends, with the byte s
 pub mixed_rest : (w : ℕ) → 0 < w / 8 → (a p r : List ℕ) (s k x : ℕ) → r ≡ mixed w a (take (w / 8 * k) p) → w / 8 * k ≤ length p → length p < w / 8 * (k + 1)

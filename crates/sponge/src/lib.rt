@@ -8,46 +8,15 @@ ghost use Rattle.sponge.specs.Padding.{padded};
 ghost use Rattle.sponge.specs.Sponge.{absorb_block, absorb, squeeze};
 ghost use Rattle.sponge.specs.Hashes.{message_blocks, hash, sha3_256, shake128, shake256};
 
-fn two_bytes(low: u8, high: u8) -> u16
-    ensures { result ≡ low + high * 2 ^ 8 }
-{
-    low as u16 + high as u16 * 0x100
-}
-
-fn four_bytes(low: u16, high: u16) -> u32
-    ensures { result ≡ low + high * 2 ^ 16 }
-{
-    low as u32 + high as u32 * 0x1_0000
-}
-
-fn eight_bytes(low: u32, high: u32) -> u64
-    ensures { result ≡ low + high * 2 ^ 32 }
-{
-    low as u64 + high as u64 * 0x1_0000_0000
-}
-
-// Lane j of a block.
-fn lane_of(b: &[u8], j: usize) -> u64
-    requires { 8 * j + 8 ≤ length b.now }
-    ensures { result ≡ lane_of 64 b.now j }
-{
-    let i = 8 * j;
-    eight_bytes(
-        four_bytes(two_bytes(b[i], b[i + 1]), two_bytes(b[i + 2], b[i + 3])),
-        four_bytes(two_bytes(b[i + 4], b[i + 5]), two_bytes(b[i + 6], b[i + 7])),
-    )
-}
-
 // A block of whole lanes xored into the first lanes of a state.
 pub fn mixed(a: [u64; 25], b: &[u8]) -> [u64; 25]
     requires { (length b.now % 8 ≡ 0) × (length b.now ≤ 200) }
     ensures { result ≡ mixed 64 a b.now }
 {
+    let (lanes, _) = b.as_chunks::<8>();
     let mut r = a;
-    let mut j = 0;
-    while j < b.len() / 8 {
-        r[j] = r[j] ^ lane_of(b, j);
-        j += 1;
+    for j in 0..lanes.len() {
+        r[j] ^= u64::from_le_bytes(lanes[j]);
     }
     r
 }
@@ -65,14 +34,12 @@ fn rest_of(piece: &[u8], suffix: u8) -> u64
     requires { suffix < 128 }
     ensures { (result ≡ lane_of 64 (piece.now ++ (suffix ∷ [])) (length piece.now / 8)) × (result < 2 ^ 63) }
 {
-    let first = piece.len() / 8 * 8;
-    let mut i = piece.len();
-    let mut x = suffix as u64;
-    while first < i {
-        i -= 1;
-        x = x * 0x100 + piece[i] as u64;
-    }
-    x
+    let (_, rest) = piece.as_chunks::<8>();
+    let n = rest.len();
+    let mut lane = [0u8; 8];
+    lane[..n].copy_from_slice(rest);
+    lane[n] = suffix;
+    u64::from_le_bytes(lane)
 }
 
 // A piece padded to a block of `rate` bytes and xored into the first lanes of a state.
@@ -83,9 +50,9 @@ fn mixed_piece(a: [u64; 25], piece: &[u8], suffix: u8, rate: usize) -> [u64; 25]
     let k = piece.len() / 8;
     let n = 8 * k;
     let mut r = mixed(a, &piece[..n]);
-    r[k] = r[k] ^ rest_of(piece, suffix);
+    r[k] ^= rest_of(piece, suffix);
     let last = rate / 8 - 1;
-    r[last] = r[last] ^ 0x8000_0000_0000_0000;
+    r[last] ^= 0x8000_0000_0000_0000;
     r
 }
 
@@ -113,24 +80,14 @@ fn absorbed_message(a: [u64; 25], message: &[u8], suffix: u8, rate: usize) -> [u
     absorbed_piece(st, &message[at..], suffix, rate)
 }
 
-// The bytes of a state, in block order: eight stores a lane.
+// The bytes of a state, in block order: eight a lane.
 pub fn state_bytes(a: [u64; 25]) -> [u8; 200]
     ensures { result ≡ bytes 64 a }
 {
     let mut r = [0u8; 200];
-    let mut j = 0;
-    while j < 25 {
-        let x = a[j];
+    for j in 0..25 {
         let i = 8 * j;
-        r[i] = (x % 0x100) as u8;
-        r[i + 1] = ((x >> 8) % 0x100) as u8;
-        r[i + 2] = ((x >> 16) % 0x100) as u8;
-        r[i + 3] = ((x >> 24) % 0x100) as u8;
-        r[i + 4] = ((x >> 32) % 0x100) as u8;
-        r[i + 5] = ((x >> 40) % 0x100) as u8;
-        r[i + 6] = ((x >> 48) % 0x100) as u8;
-        r[i + 7] = ((x >> 56) % 0x100) as u8;
-        j += 1;
+        r[i..i + 8].copy_from_slice(&a[j].to_le_bytes());
     }
     r
 }
@@ -141,11 +98,8 @@ pub fn put_bytes(a: [u64; 25], out: &mut [u8])
     ensures { out.new ≡ take (length out.old) (bytes 64 a) }
 {
     let b = state_bytes(a);
-    let mut i = 0;
-    while i < out.len() {
-        out[i] = b[i];
-        i += 1;
-    }
+    let n = out.len();
+    out.copy_from_slice(&b[..n]);
 }
 
 // The whole slice filled from a state: `rate` bytes, then a permutation, and so on.
@@ -153,14 +107,14 @@ pub fn squeeze_into(a: [u64; 25], rate: usize, out: &mut [u8])
     requires { (0 < rate) × (rate ≤ 200) }
     ensures { out.new ≡ squeeze 64 f1600 rate a (length out.old) }
 {
+    // By index: of a slice that a loop lends on with `split_at_mut`, or goes over with `chunks_mut`, no proof knows the elements afterwards.
     let mut st = a;
     let mut at = 0;
     while rate < out.len() - at {
-        let e = at + rate;
-        put_bytes(st, &mut out[at..e]);
+        put_bytes(st, &mut out[at..at + rate]);
         let next = keccak::permuted(st);
         st = next;
-        at = e;
+        at += rate;
     }
     put_bytes(st, &mut out[at..]);
 }
