@@ -1,7 +1,7 @@
 // The sponge over Keccak-f[1600]: blocks of bytes go in, bytes come out; and the hashes of FIPS 202.
 #![tactic(auto)]
 
-ghost use Rattle.std.specs.Prelude.{◌≡◌, [], ◌∷◌, ◌++◌, ◌+◌, ◌*◌, ◌/◌, ◌%◌, ◌^◌, ◌<◌, ◌≤◌, length, take};
+ghost use Rattle.std.specs.Prelude.{◌≡◌, [], ◌∷◌, ◌++◌, ◌/◌, ◌%◌, ◌^◌, ◌<◌, ◌≤◌, length, take};
 ghost use Rattle.keccak.specs.Rounds.{f1600};
 ghost use Rattle.sponge.specs.Bytes.{lane_of, mixed, bytes};
 ghost use Rattle.sponge.specs.Padding.{padded};
@@ -15,6 +15,7 @@ pub fn mixed(a: [u64; 25], b: &[u8]) -> [u64; 25]
 {
     let (lanes, _) = b.as_chunks::<8>();
     let mut r = a;
+    // By index: no proof knows the elements that a loop wrote through `iter_mut`.
     for j in 0..lanes.len() {
         r[j] ^= u64::from_le_bytes(lanes[j]);
     }
@@ -84,6 +85,7 @@ fn absorbed_message(a: [u64; 25], message: &[u8], suffix: u8, rate: usize) -> [u
 pub fn state_bytes(a: [u64; 25]) -> [u8; 200]
     ensures { result ≡ bytes 64 a }
 {
+    // `a.map(u64::to_le_bytes)` and `as_flattened` say the same, but compile to many times the instructions.
     let mut r = [0u8; 200];
     for j in 0..25 {
         let i = 8 * j;
