@@ -70,13 +70,13 @@ fn absorbed_message(a: [u64; 25], message: &[u8], suffix: u8, rate: usize) -> [u
     requires { (0 < rate) × (rate ≤ 200) × (rate % 8 ≡ 0) × (suffix < 128) }
     ensures { result ≡ absorb 64 f1600 a (message_blocks rate suffix message.now) }
 {
+    // By index: a loop that goes down the slice, by `split_at` or by ranges, copies the state once more a block and takes 2 % more time.
     let mut st = a;
     let mut at = 0;
     while rate <= message.len() - at {
-        let e = at + rate;
-        let next = absorbed_block(st, &message[at..e]);
+        let next = absorbed_block(st, &message[at..at + rate]);
         st = next;
-        at = e;
+        at += rate;
     }
     absorbed_piece(st, &message[at..], suffix, rate)
 }
