@@ -15,7 +15,7 @@ fn byte_count(x: u64) -> usize
     if x == 0 {
         return 1;
     }
-    (71 - u64::leading_zeros(x) as usize) / 8
+    (71 - x.leading_zeros() as usize) / 8
 }
 
 // The last n bytes of x.
