@@ -114,18 +114,16 @@ pub fn sealed_into(a: [u64; 25], body: &[u8], rate: usize, out: &mut [u8]) -> [u
     ensures { (result ≡ absorbed 64 f1600 rate a 1 0 body.now) × (out.new ≡ sealed 64 f1600 rate a body.now ++ drop (length body.now) out.old) }
 {
     let most = rate - 1;
-    let n = body.len();
     let mut st = a;
-    let mut unsealed = body;
-    while most < unsealed.len() {
-        let at = n - unsealed.len();
-        let (piece, rest) = unsealed.split_at(most);
-        let next = seal_piece(st, piece, 1, rate, &mut out[at..at + most]);
+    let mut at = 0; // a place, for a loop that went down `out` would leave no more known of it than its length
+    while most < body.len() - at {
+        let e = at + most;
+        let next = seal_piece(st, &body[at..e], 1, rate, &mut out[at..e]);
         st = next;
-        unsealed = rest;
+        at = e;
     }
-    let at = n - unsealed.len();
-    seal_piece(st, unsealed, 0, rate, &mut out[at..n])
+    let n = body.len();
+    seal_piece(st, &body[at..n], 0, rate, &mut out[at..n])
 }
 
 // One piece of a ciphertext opened: its plaintext goes to `out`, and that is what is absorbed.
@@ -144,18 +142,16 @@ pub fn opened_into(a: [u64; 25], cipher: &[u8], rate: usize, out: &mut [u8]) -> 
     ensures { (result ≡ absorbed 64 f1600 rate a 1 0 (opened 64 f1600 rate a cipher.now)) × (out.new ≡ opened 64 f1600 rate a cipher.now ++ drop (length cipher.now) out.old) }
 {
     let most = rate - 1;
-    let n = cipher.len();
     let mut st = a;
-    let mut unopened = cipher;
-    while most < unopened.len() {
-        let at = n - unopened.len();
-        let (piece, rest) = unopened.split_at(most);
-        let next = open_piece(st, piece, 1, rate, &mut out[at..at + most]);
+    let mut at = 0; // a place, for a loop that went down `out` would leave no more known of it than its length
+    while most < cipher.len() - at {
+        let e = at + most;
+        let next = open_piece(st, &cipher[at..e], 1, rate, &mut out[at..e]);
         st = next;
-        unopened = rest;
+        at = e;
     }
-    let at = n - unopened.len();
-    open_piece(st, unopened, 0, rate, &mut out[at..n])
+    let n = cipher.len();
+    open_piece(st, &cipher[at..n], 0, rate, &mut out[at..n])
 }
 
 // One piece of a ciphertext opened in a local buffer.

@@ -10,11 +10,10 @@ loop-out-init c = search (rules, laid_none_whole)
 
 pub loop-out-preserved : goal.loop-out-preserved
 loop-out-preserved c = (
-  omega arith,
   grind (arith, state_after_more 64 f1600 c.args.rate c.loop-out.st c.requires (length c.args.out.now - c.loop-out.at)),
-  laid_more _ _ _ _ _ c.loop-out.invariant.2 c.loop-out.at _ _ _ _ (omega arith) (grind (arith, drawn_more)) (grind arith) (grind arith),
+  laid_more _ _ _ _ _ c.loop-out.invariant.1 _ _ _ (grind (arith, drawn_more)) (grind arith) (omega arith),
 )
 
 pub returns : goal.returns
 returns c =
-    (grind (arith, state_after_none), rw c.loop-out.auto.out (laid_last _ _ _ _ _ c.loop-out.invariant.2 c.loop-out.at _ (omega arith) (grind (arith, drawn_only))))
+    (grind (arith, state_after_none), rw c.loop-out.auto.out (laid_last _ _ _ _ _ c.loop-out.invariant.1 _ (grind (arith, drawn_only))))

@@ -1,16 +1,25 @@
--- The first piece of what is left, and at the end all of it, is sealed and laid where it was in the body.
-use mathlib.Core.Path.{refl}
-use Rattle.std.proofs.Common.{arith}
+-- A piece more, and at the end what is left, is sealed and laid where it was in the body.
+use mathlib.Core.Path.{◌≡◌}
+use Prim.Native.Nat.{◌+◌, ◌-◌, ◌<◌}
+use native.Mathlib.Omega.{arith}
+use lib.ListN.{length, drop, length-drop}
+use lib.Seq.{drop-drop}
+use Rattle.std.proofs.lemmas.List.{take_rest}
+use Rattle.keccak.specs.Rounds.{f1600}
 use Rattle.duplex.proofs.First.{absorbed_after, absorbed_only, sealed_after, sealed_only}
 use Rattle.duplex.proofs.Laid.{laid_more, laid_last}
 use Rattle.duplex.proofs.sealed_into.Goals as goal
 
-pub loop-unsealed-preserved : goal.loop-unsealed-preserved
-loop-unsealed-preserved c = (
-  grind (arith, absorbed_after),
-  laid_more _ _ _ _ _ c.loop-unsealed.invariant.1 _ _ _ _ _ refl (grind (arith, sealed_after)) (grind arith) (grind arith),
-)
+pub loop-at-preserved : goal.loop-at-preserved
+loop-at-preserved c =
+    let left = drop c.loop-at.at c.args.body.now in
+    let long : c.args.rate - 1 < length (drop c.loop-at.at c.args.body.now) = omega (arith, length-drop c.loop-at.at c.args.body.now) in
+    let as_many : c.loop-at.at + (c.args.rate - 1) - c.loop-at.at ≡ c.args.rate - 1 = omega arith in
+    let rest = drop-drop (c.args.rate - 1) c.loop-at.at c.args.body.now in (
+      cc (absorbed_after 64 f1600 c.args.rate c.loop-at.st c.requires.0.room 1 0 left long),
+      laid_more _ _ _ _ _ c.loop-at.invariant.1 _ _ _ (cc (sealed_after 64 f1600 c.args.rate c.loop-at.st c.requires.0.room left long)) (grind arith) (grind arith),
+    )
 
 pub returns : goal.returns
 returns c =
-    (grind (arith, absorbed_only), laid_last _ _ _ _ _ c.loop-unsealed.invariant.1 _ _ refl (grind (arith, sealed_only)))
+    (grind (arith, absorbed_only, take_rest), laid_last _ _ _ _ _ c.loop-at.invariant.1 _ (grind (arith, sealed_only, take_rest)))
