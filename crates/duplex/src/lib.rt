@@ -62,7 +62,9 @@ fn is_refused(rate: usize, piece: usize, out: usize) -> bool
 // One duplexing of a piece.
 #[tactic(auto, unfolding(crate::specs::Duplex::duplexing, crate::specs::Duplex::framed))]
 fn duplexed(a: [u64; 25], piece: &[u8], frame: u8, rate: usize) -> [u64; 25]
-    requires { Rate 64 rate × (length piece.now < rate) × (frame < 2) }
+    requires offered { Rate 64 rate }
+    requires room { length piece.now < rate }
+    requires bit { frame < 2 }
     ensures { result ≡ duplexing 64 f1600 rate a piece.now frame }
 {
     sponge::absorbed_piece(a, piece, 2 + frame, rate)
@@ -100,7 +102,10 @@ fn mask_into(a: [u64; 25], p: &[u8], out: &mut [u8])
 
 // One piece of a body sealed: its ciphertext goes to `out`.
 fn seal_piece(a: [u64; 25], p: &[u8], frame: u8, rate: usize, out: &mut [u8]) -> [u64; 25]
-    requires { Rate 64 rate × (length p.now < rate) × (frame < 2) × (length out.old ≡ length p.now) }
+    requires offered { Rate 64 rate }
+    requires room { length p.now < rate }
+    requires bit { frame < 2 }
+    requires as_long { length out.old ≡ length p.now }
     ensures state { result ≡ duplexing 64 f1600 rate a p.now frame }
     ensures written { out.new ≡ xored p.now (bytes 64 a) }
 {
@@ -128,7 +133,10 @@ pub fn sealed_into(a: [u64; 25], body: &[u8], rate: usize, out: &mut [u8]) -> [u
 
 // One piece of a ciphertext opened: its plaintext goes to `out`, and that is what is absorbed.
 fn open_piece(a: [u64; 25], p: &[u8], frame: u8, rate: usize, out: &mut [u8]) -> [u64; 25]
-    requires { Rate 64 rate × (length p.now < rate) × (frame < 2) × (length out.old ≡ length p.now) }
+    requires offered { Rate 64 rate }
+    requires room { length p.now < rate }
+    requires bit { frame < 2 }
+    requires as_long { length out.old ≡ length p.now }
     ensures state { result ≡ duplexing 64 f1600 rate a out.new frame }
     ensures written { out.new ≡ xored p.now (bytes 64 a) }
 {
@@ -156,7 +164,9 @@ pub fn opened_into(a: [u64; 25], cipher: &[u8], rate: usize, out: &mut [u8]) -> 
 
 // One piece of a ciphertext opened in a local buffer.
 fn peek_piece(a: [u64; 25], p: &[u8], frame: u8, rate: usize) -> [u64; 25]
-    requires { Rate 64 rate × (length p.now < rate) × (frame < 2) }
+    requires offered { Rate 64 rate }
+    requires room { length p.now < rate }
+    requires bit { frame < 2 }
     ensures { result ≡ duplexing 64 f1600 rate a (xored p.now (bytes 64 a)) frame }
 {
     let mut plain = [0u8; 200];
