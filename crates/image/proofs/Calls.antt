@@ -1,5 +1,5 @@
 -- A call over an image by its outcome: an image of another length, or the session's own call, settled.
-use mathlib.Core.Path.{◌≡◌, refl, ap}
+use mathlib.Core.Path.{◌≡◌, refl, ap, ◌∙◌}
 use mathlib.Core.List.{List, [], ◌++◌}
 use mathlib.Core.Bool.{Bool, true, false, not}
 use Prim.Native.Nat.{ℕ, ◌≤◌}
@@ -27,12 +27,18 @@ module _ (n : ℕ) (b o : List ℕ) where
   pub right_length : (u v : Seen) → length b ≡ n → u ≡ v → u ≡ sized n b o v
   right_length u v h e = passed (seen 6 b o) (alike (length b) n h) e
 
--- y is the image i as an array. A call on its session that answers a leaves o' of the output o; then a is stored in the image
-module _ (i y o : List ℕ) (whole : IsWholeChunk i y image_length) (a : Answer) (o' : List ℕ) where
-  pub called : (w : Session → sessions.Seen) (s : Session) → s ≡ session_of y → sessions.seen a o' ≡ w s → (n : ℕ) (i' : List ℕ)
-      → n ≡ a.number → i' ≡ by a.number y (image_of a.session) → seen n i' o' ≡ sized image_length i o (over_image i (w (session_of i)))
-  called w s z e n i' f g =
-      right_length image_length i o (seen n i' o') (over_image i (w (session_of i))) whole.long (rw (← whole.same, ← z, ← e, f, g))
+-- y is the image i as an array
+module _ (i y o : List ℕ) (whole : IsWholeChunk i y image_length) where
+  -- a call on its session came to w, of which u is shown
+  pub on_image : {W : Type 0} (shown : W → Seen) (call : Session → W) (s : Session) → s ≡ session_of y → (w : W) → w ≡ call s → (u : Seen) → u ≡ shown w
+      → u ≡ sized image_length i o (shown (call (session_of i)))
+  on_image shown call s z w e u f =
+      right_length image_length i o u (shown (call (session_of i))) whole.long (f ∙ ap shown (e ∙ ap call (z ∙ ap session_of whole.same)))
+
+  -- that call answers a and leaves o' of the output o; then a is stored in the image
+  pub called : (call : Session → sessions.Seen) (s : Session) → s ≡ session_of y → (a : Answer) (o' : List ℕ) → sessions.seen a o' ≡ call s → (n : ℕ) (i' : List ℕ)
+      → n ≡ a.number → i' ≡ by a.number y (image_of a.session) → seen n i' o' ≡ sized image_length i o (over_image i (call (session_of i)))
+  called call s z a o' e n i' f g = on_image (over_image i) call s z (sessions.seen a o') e (seen n i' o') (rw (f, g, whole.same))
 
 -- ---- a refused call leaves image and output
 

@@ -58,6 +58,7 @@ fn store_answer(answer: Result<Session, Refused>, image: &mut [u8; LENGTH]) -> R
 }
 
 // Opens a session into an image.
+#[tactic(auto, using(crate::proofs::Calls::other_length), unfolding(crate::specs::Calls::opens_image))]
 pub fn open(key: &[u8], rate: u16, tag: u16, image: &mut [u8]) -> Result<(), Refusal>
     ensures { seen (told result) image.new [] ≡ opens_image key.now rate tag image.old }
 {
@@ -66,6 +67,7 @@ pub fn open(key: &[u8], rate: u16, tag: u16, image: &mut [u8]) -> Result<(), Ref
 }
 
 // Seals a pair with the session that an image holds.
+#[tactic(auto, using(crate::proofs::Calls::other_length), unfolding(crate::specs::Calls::wraps_image))]
 pub fn wrap(image: &mut [u8], header: &[u8], body: &[u8], out: &mut [u8]) -> Result<(), Refusal>
     ensures { seen (told result) image.new out.new ≡ wraps_image image.old header.now body.now out.old }
 {
@@ -77,6 +79,7 @@ pub fn wrap(image: &mut [u8], header: &[u8], body: &[u8], out: &mut [u8]) -> Res
 }
 
 // Opens a pair with the session that an image holds.
+#[tactic(auto, using(crate::proofs::Calls::other_length), unfolding(crate::specs::Calls::unwraps_image))]
 pub fn unwrap(
     image: &mut [u8],
     header: &[u8],

@@ -1,19 +1,14 @@
--- An image of another length is refused; else the answer is the session's own, settled.
+-- In an image of the right length the answer is the session's own, settled.
 use mathlib.Core.Path.{refl}
 use mathlib.Core.List.{[]}
-use borrow.Author.Rules.{rules}
 use Rattle.spongewrap.specs.Desk.{desk}
 use Rattle.spongewrap.specs.Sessions as sessions
 use Rattle.image.specs.Calls.{opens_image}
-use Rattle.image.proofs.Calls.{other_length, called}
+use Rattle.image.proofs.Calls.{called}
 use Rattle.image.proofs.open.Goals as goal
-
-pub returns-in_err-image : goal.returns-in_err-image
-unfolding opens_image
-returns-in_err-image c = search (rules, other_length)
 
 pub returns : goal.returns
 unfolding opens_image
 returns c =
-    called _ _ [] (rw c.in_ok-image.ensures.ok_part at c.as_mut_array.ensures.cases) _ [] (λ _. sessions.seen (sessions.opens desk c.args.key.now c.args.rate c.args.tag) []) _ refl
-    (rw c.open.ensures) _ _ c.store_answer.ensures.number c.store_answer.ensures.image
+    called _ _ [] (rw c.in_ok-image.ensures.ok_part at c.as_mut_array.ensures.cases) (λ _. sessions.seen (sessions.opens desk c.args.key.now c.args.rate c.args.tag) []) _ refl
+    _ [] (rw c.open.ensures) _ _ c.store_answer.ensures.number c.store_answer.ensures.image

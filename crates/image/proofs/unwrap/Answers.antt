@@ -1,17 +1,12 @@
--- An image of another length is refused; else the answer is the session's own, settled.
-use borrow.Author.Rules.{rules}
+-- In an image of the right length the answer is the session's own, settled.
 use Rattle.spongewrap.specs.Desk.{desk}
 use Rattle.spongewrap.specs.Sessions as sessions
 use Rattle.image.specs.Calls.{unwraps_image}
-use Rattle.image.proofs.Calls.{other_length, called}
+use Rattle.image.proofs.Calls.{called}
 use Rattle.image.proofs.unwrap.Goals as goal
-
-pub returns-in_err-image : goal.returns-in_err-image
-unfolding unwraps_image
-returns-in_err-image c = search (rules, other_length)
 
 pub returns : goal.returns
 unfolding unwraps_image
 returns c =
-    called _ _ _ (rw c.in_ok-image.ensures.ok_part at c.as_mut_array.ensures.cases) _ _ (λ s. sessions.unwraps desk s c.args.header.now c.args.cipher.now c.args.tag.now c.args.body.now) _ c.session_of.ensures
-    c.unwrap.ensures _ _ c.store_answer.ensures.number c.store_answer.ensures.image
+    called _ _ _ (rw c.in_ok-image.ensures.ok_part at c.as_mut_array.ensures.cases) (λ s. sessions.unwraps desk s c.args.header.now c.args.cipher.now c.args.tag.now c.args.body.now) _ c.session_of.ensures
+    _ _ c.unwrap.ensures _ _ c.store_answer.ensures.number c.store_answer.ensures.image
