@@ -3,11 +3,7 @@ use Prim.Native.Nat.{ℕ}
 use mathlib.Core.Path.{◌≡◌, ap, ◌∙◌}
 use mathlib.Core.List.{List}
 use lib.ListN.{length}
-use Rattle.spongewrap.specs.Desk.{desk}
-use Rattle.spongewrap.specs.Sessions as sessions
-use Rattle.spongewrap.specs.Sessions.{wraps, unwraps}
 use Rattle.spongewrap.specs.declared.Session.{Session}
-use Rattle.spongewrap.specs.declared.Answer.{Answer}
 use Rattle.bundle.specs.Format.{version1}
 use Rattle.bundle.specs.Answers as bundles
 use Rattle.bundle.specs.Opening.{opens_entry}
@@ -16,7 +12,6 @@ use Rattle.bundle.specs.declared.Reply.{Reply}
 use Rattle.image.specs.Image.{image_length, image_of, session_of}
 use Rattle.image.specs.Calls.{Seen, seen, sized}
 use Rattle.image.proofs.Calls.{right_length}
-use Rattle.probe.specs.Sessions.{of_session}
 use Rattle.probe.specs.Bundles.{packed_answer, of_bundle}
 
 module _ (i i' o o' : List ℕ) (s : Session) (h : length i ≡ image_length) (z : s ≡ session_of i) where
@@ -24,13 +19,6 @@ module _ (i i' o o' : List ℕ) (s : Session) (h : length i ≡ image_length) (z
   over_image_lem : {W : Type 0} (shown : W → Seen) (call : Session → W) (w : W) (u : Seen) → w ≡ call s → u ≡ shown w
       → u ≡ sized image_length i o (shown (call (session_of i)))
   over_image_lem shown call w u e f = right_length image_length i o u (shown (call (session_of i))) h (f ∙ ap shown (e ∙ ap call z))
-
-  module _ (a : Answer) (f : i' ≡ image_of a.session) where
-    pub wrapped_is : (k b : List ℕ) → sessions.seen a o' ≡ wraps desk s k b o → seen a.number i' o' ≡ sized image_length i o (of_session (wraps desk (session_of i) k b o))
-    wrapped_is k b e = over_image_lem of_session (λ r. wraps desk r k b o) (sessions.seen a o') (seen a.number i' o') e (rw f)
-
-    pub unwrapped_is : (k c t : List ℕ) → sessions.seen a o' ≡ unwraps desk s k c t o → seen a.number i' o' ≡ sized image_length i o (of_session (unwraps desk (session_of i) k c t o))
-    unwrapped_is k c t e = over_image_lem of_session (λ r. unwraps desk r k c t o) (sessions.seen a o') (seen a.number i' o') e (rw f)
 
   module _ (a : Reply) (n : ℕ) (f : i' ≡ image_of a.session) (g : n ≡ packed_answer a) where
     pub entry_opened_is : (b : List ℕ) (place : ℕ) → bundles.seen a o' ≡ opens_entry version1 s b place o → seen n i' o' ≡ sized image_length i o (of_bundle (opens_entry version1 (session_of i) b place o))

@@ -8,6 +8,7 @@ ghost use Rattle.image.specs.Calls.{seen, sized};
 ghost use Rattle.probe.specs.States.{lanes_of};
 
 use crate::{STATE, lanes_of};
+use refusal::Refusal;
 
 // A state of 200 bytes in block order, permuted where it stands.
 #[unsafe(no_mangle)]
@@ -18,30 +19,28 @@ pub extern "C" fn probe_permute(state: &mut [u8]) -> u8
 }
 
 // The same, many times in one call.
+#[tactic(auto, using(image::proofs::Calls::other_length))]
 #[unsafe(no_mangle)]
 pub extern "C" fn probe_permute_times(state: &mut [u8], times: u64) -> u8
     ensures { seen result state.new [] ≡ sized 200 state.old [] (seen 0 (bytes 64 (iterate f1600 (lanes_of state.old) times)) []) }
 {
-    if state.len() != STATE {
-        return refusal::NO_ROOM;
-    }
-    let lanes = lanes_of(&state[..]);
-    let permuted = permuted_times(lanes, times);
-    sponge::put_bytes(permuted, state);
+    let Some(state) = state.as_mut_array::<STATE>() else {
+        return u8::from(Refusal::NoRoom);
+    };
+    *state = sponge::state_bytes(permuted_times(lanes_of(state), times));
     0
 }
 
-fn permuted_times(a: [u64; 25], times: u64) -> [u64; 25]
+// In two steps a turn: the check has no rule yet for `a = permuted(a)`, which lays the array that a call answers over a variable.
+#[tactic(auto, unfolding(sponge::specs::Sponge::iterate))]
+fn permuted_times(mut a: [u64; 25], times: u64) -> [u64; 25]
     ensures { result ≡ iterate f1600 a times }
 {
-    let mut b = a;
-    let mut left = times;
-    while 0 < left {
-        let next = keccak::permuted(b);
-        b = next;
-        left -= 1;
+    for _turn in 0..times {
+        let next = keccak::permuted(a);
+        a = next;
     }
-    b
+    a
 }
 
 #[unsafe(no_mangle)]

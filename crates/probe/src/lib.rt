@@ -12,7 +12,7 @@ ghost use Rattle.probe.specs.States.{lanes_of};
 // How many bytes a state has.
 const STATE: usize = 200;
 
-// The lanes of the state that bytes in block order begin with.
+// The lanes of the state that bytes in block order begin with: of a state, or of a duplex object, which has more bytes.
 fn lanes_of(b: &[u8]) -> [u64; 25]
     requires { 200 ≤ length b.now }
     ensures { result ≡ lanes_of b.now }

@@ -1,10 +1,11 @@
--- An image of another length is refused; else the session that the call left is laid over it.
-use Rattle.image.proofs.Calls.{other_length}
-use Rattle.probe.proofs.Buffers.{wrapped_is}
+-- The session that the call left is laid over an image of the right length.
+use Rattle.spongewrap.specs.Desk.{desk}
+use Rattle.spongewrap.specs.Sessions as sessions
+use Rattle.image.proofs.Calls.{on_image}
+use Rattle.probe.specs.Sessions.{of_session}
 use Rattle.probe.proofs.sessions.probe_running_wrap.Goals as goal
 
-pub returns-then-image-ne-LENGTH : goal.returns-then-image-ne-LENGTH
-returns-then-image-ne-LENGTH c = search other_length
-
 pub returns : goal.returns
-returns c = search wrapped_is
+returns c =
+    on_image _ _ _ c.in-Some.ensures.cases of_session (λ s. sessions.wraps desk s c.args.header.now c.args.body.now c.args.out.now) _ c.session_of.ensures
+    _ c.wrap_lent.ensures _ (rw (c.put_answer.ensures.number, c.put_answer.ensures.image))
