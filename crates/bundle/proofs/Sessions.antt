@@ -30,6 +30,7 @@ use Rattle.bundle.proofs.Tables.{through, fit, wrap_rows}
 use Rattle.bundle.proofs.Entries.{whole_at}
 use Rattle.bundle.proofs.Contents.{adds_all, AllAdded, Sealed}
 use Rattle.bundle.proofs.Openings.{open_told, open_is}
+use Rattle.bundle.proofs.Stores.{seals}
 use Rattle.bundle.proofs.Written.{all_holds}
 use Rattle.bundle.proofs.Theorems.{opened_tag}
 
@@ -82,14 +83,10 @@ unfoldable pub seal_calls : Version → List Pair → List Call
 seal_calls v [] = []
 seal_calls v (p ∷ ps) = wrapping p.header p.body (replicate (length p.body + v.tag) 0) ∷ seal_calls v ps
 
-seals : (v : Version) (s : Session) (h b : List ℕ) → Ready v s (length h) (length b) → (wraps desk s h b (replicate (length b + v.tag) 0)).answer.number ≡ 0
-seals v s h b r =
-    let f = fit v s r.own_rows_lem in
-    let o : List ℕ = replicate (length b + v.tag) 0 in
-    let k : length b + s.tag ≤ length o = omega (arith, f.tag, length-replicate {A = ℕ} (length b + v.tag) 0) in
-    wrap_number desk s h b o
-    ∙ wrap_rows v s (length h) (length b) (length o) f r.header_fits r.body_fits
-    ∙ sym (passed 6 (le-ltb (length o) (length b + s.tag) k) refl)
+sealed_into : (v : Version) (s : Session) (h b : List ℕ) → Ready v s (length h) (length b) → (wraps desk s h b (replicate (length b + v.tag) 0)).answer.number ≡ 0
+sealed_into v s h b r =
+    let n : ℕ = length b + v.tag in
+    seals v s h b (replicate n 0) (length h) r r.header_fits (omega (arith, length-replicate {A = ℕ} n 0))
 
 -- what the calls lead to, and which headers and bodies they have accepted
 pub sealed_history : (v : Version) (s : Session) (xs : List Pair) → Sealed v s xs
@@ -97,7 +94,7 @@ pub sealed_history : (v : Version) (s : Session) (xs : List Pair) → Sealed v s
 unfolding Sealed seal_calls after_calls after_pairs accepted_pairs answered pair_with by
 sealed_history v s [] r = (refl, refl)
 sealed_history v s (x ∷ xs) r =
-    let e = seals v s x.header x.body r.0 in
+    let e = sealed_into v s x.header x.body r.0 in
     let n = ap (λ (u : Called). u.answer.session) (wrapped_is desk s x.header x.body _ e) in
     let i = sealed_history v (next desk s x.header x.body) xs r.1 in
     let a = ap (λ (t : Session). accepted_pairs desk t (seal_calls v xs)) n in
