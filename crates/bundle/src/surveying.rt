@@ -59,14 +59,7 @@ pub fn survey(bundle: &[u8]) -> Result<usize, Fault>
     if bundle[0] != format::VERSION {
         return Err(Refusal::OtherVersion.into());
     }
-    if bytes < format::FIRST {
-        return Err(Fault {
-            refusal: Refusal::Malformed,
-            place: 1,
-        });
-    }
-    let stated = u32::read(bundle, 1) as usize;
-    if stated != bytes - format::FIRST {
+    if bytes < format::FIRST || u32::read(bundle, 1) as usize != bytes - format::FIRST {
         return Err(Fault {
             refusal: Refusal::Malformed,
             place: 1,
