@@ -1,3 +1,4 @@
 pub mod Bounds
 pub mod Spelled
+pub mod FirstLine
 pub mod Chains
