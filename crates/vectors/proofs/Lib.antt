@@ -1,3 +1,4 @@
 pub mod Spelled
 pub mod Links
 pub mod FirstLine
+pub mod Decoded

@@ -1,5 +1,5 @@
 -- What the lines of the files spell: digits, numbers, bytes, and the field after a name.
-use Rattle.std.specs.Prelude.{ℕ, ◌+◌, ◌-◌, ◌*◌, List, [], ◌∷◌, Bool, eqb, ltb, length, take, drop, get_or}
+use Rattle.std.specs.Prelude.{◌≡◌, ℕ, ◌+◌, ◌-◌, ◌*◌, ◌%◌, ◌<◌, ◌≤◌, List, [], ◌∷◌, Bool, eqb, ltb, length, take, drop, get_or}
 use Rattle.refusal.specs.Rows.{pick}
 use Rattle.compare.specs.Same.{same}
 
@@ -15,6 +15,21 @@ number_from n (b ∷ t) = pick (ltb 9 (digit b)) n (pick (ltb 999999 n) n (numbe
 -- the byte of two digits, 256 of none
 unfoldable pub byte : ℕ → ℕ → ℕ
 byte high low = pick (ltb 15 (digit high)) 256 (pick (ltb 15 (digit low)) 256 (16 * digit high + digit low))
+
+-- the bytes of some digits, two each, 256 for two that spell none; a last digit without another is passed over
+unfoldable pub bytes : List ℕ → List ℕ
+bytes [] = []
+bytes (high ∷ []) = []
+bytes (high ∷ low ∷ digits) = byte high low ∷ bytes digits
+
+-- every two digits spell a byte, and none is left over
+abbrev pub IsWhole : List ℕ → Type 0
+IsWhole digits = (length digits % 2 ≡ 0) × ((k : ℕ) → k < length (bytes digits) → get_or (bytes digits) k 0 < 256)
+
+-- the bytes that digits spell, where they are whole and no more than n; none of any others
+abbrev pub Decoded : ℕ → List ℕ → List ℕ → Type 0
+Decoded n digits text =
+    (IsWhole digits → length (bytes digits) ≤ n → text ≡ bytes digits) × ((IsWhole digits → n < length (bytes digits)) → text ≡ [])
 
 -- a line starts with a name
 unfoldable pub is_named : List ℕ → List ℕ → Bool

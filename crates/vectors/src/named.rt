@@ -1,6 +1,6 @@
 // The fields of a line: a name, and a number or bytes in hexadecimal digits after it.
-ghost use Rattle.std.specs.Prelude.{◌≡◌, ◌≤◌, ◌<◌, [], length, MatchOption, IfSome};
-ghost use Rattle.vectors.specs.Spelled.{byte, digit, is_named, number_after, number_from, value};
+ghost use Rattle.std.specs.Prelude.{◌≡◌, ◌≤◌, ◌<◌, [], ◌++◌, length, drop, MatchOption, IfSome, IsNone};
+ghost use Rattle.vectors.specs.Spelled.{IsWhole, byte, bytes, digit, is_named, number_after, number_from, value};
 
 // Whether the line starts with the name.
 #[tactic(auto, using(crate::proofs::Spelled::named_is))]
@@ -51,7 +51,7 @@ fn number(text: &[u8]) -> usize
 // The byte that two digits spell; none where they spell none.
 #[tactic(auto, using(crate::proofs::Spelled::byte_no_high, crate::proofs::Spelled::byte_no_low, crate::proofs::Spelled::byte_both))]
 fn byte(high: u8, low: u8) -> Option<u8>
-    ensures { MatchOption result (byte high low ≡ 256) (λ b. b ≡ byte high low) }
+    ensures { MatchOption result (byte high low ≡ 256) (λ b. (b ≡ byte high low) × (b < 256)) }
 {
     Some(16 * digit(high)? + digit(low)?)
 }
@@ -59,7 +59,9 @@ fn byte(high: u8, low: u8) -> Option<u8>
 // Puts the bytes that the digits spell to the front of `out` and answers how many there are; none where the text is not whole
 // bytes or `out` is too short.
 pub fn decode(digits: &[u8], out: &mut [u8]) -> Option<usize>
-    ensures { IfSome result (λ n. n ≤ length out.new) }
+    ensures within { IfSome result (λ n. n ≤ length out.new) }
+    ensures whole { IfSome result (λ n. IsWhole digits.now × (n ≡ length (bytes digits.now)) × (out.new ≡ bytes digits.now ++ drop n out.old)) }
+    ensures none { IsNone result → IsWhole digits.now → length out.old < length (bytes digits.now) }
 {
     let (pairs, rest) = digits.as_chunks::<2>();
     if !rest.is_empty() || out.len() < pairs.len() {
