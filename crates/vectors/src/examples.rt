@@ -1,9 +1,11 @@
 // The worked examples of document 01 that are run and not proved, a line for each.
 ghost use Rattle.std.specs.Prelude.{◌≡◌};
+ghost use Rattle.refusal.specs.Numbers.{told};
 ghost use Rattle.spongewrap.specs.Desk.{default_rate, default_tag, desk};
 ghost use Rattle.spongewrap.specs.Sessions.{opens};
 
 use crate::{named, tally};
+use refusal::Refusal;
 use spongewrap::Session;
 use std::io;
 
@@ -30,21 +32,23 @@ fn ends_in_0x86() -> bool {
     digest == known && sponge::sha3_256(&message) == known
 }
 
-// What an open with a key of n bytes answers.
-fn opened_by(key: &[u8]) -> u8
-    ensures { result ≡ (opens desk key.now default_rate default_tag).number }
+// Why an open with this key is refused, if it is.
+fn opened_by(key: &[u8]) -> Result<(), Refusal>
+    ensures { told result ≡ (opens desk key.now default_rate default_tag).number }
 {
-    let answer = spongewrap::open(key, Session::RATE, Session::TAG);
-    answer.number
+    match spongewrap::open(key, Session::RATE, Session::TAG) {
+        Ok(_) => Ok(()),
+        Err(refused) => Err(refused.refusal),
+    }
 }
 
 // A key of 15, 16, 256, 257 bytes: 2, open, open, 2.
 fn keys_have_limits() -> bool {
     let key = [0x41u8; 257];
-    opened_by(&key[..15]) == 2
-        && opened_by(&key[..16]) == 0
-        && opened_by(&key[..256]) == 0
-        && opened_by(&key) == 2
+    opened_by(&key[..15]) == Err(Refusal::BadKey)
+        && opened_by(&key[..16]) == Ok(())
+        && opened_by(&key[..256]) == Ok(())
+        && opened_by(&key) == Err(Refusal::BadKey)
 }
 
 // Every example, a line each.

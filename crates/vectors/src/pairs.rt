@@ -23,10 +23,10 @@ fn sealed(
     tag: &[u8],
     out: &mut [u8],
 ) -> Option<Session> {
-    let answer = spongewrap::wrap(s, header, body, out);
+    let next = spongewrap::wrap(s, header, body, out).ok()?;
     let (front, end) = out.split_at_checked(cipher.len())?;
-    if answer.number == 0 && front == cipher && end == tag {
-        Some(answer.session)
+    if front == cipher && end == tag {
+        Some(next)
     } else {
         None
     }
@@ -42,7 +42,7 @@ fn opens(
     out: &mut [u8],
 ) -> bool {
     let answer = spongewrap::unwrap(s, header, cipher, tag, out);
-    answer.number == 0 && &out[..] == body
+    answer.is_ok() && &out[..] == body
 }
 
 impl Pair {

@@ -43,12 +43,7 @@ fn setting(n: usize) -> u16
 fn opened(key: &[u8], rate: usize, tag: usize) -> Option<Session>
     ensures { result ≡ pick (eqb (opens desk key.now (setting rate) (setting tag)).number 0) (Some (opens desk key.now (setting rate) (setting tag)).session) None }
 {
-    let answer = spongewrap::open(key, setting(rate), setting(tag));
-    if answer.number == 0 {
-        Some(answer.session)
-    } else {
-        None
-    }
+    spongewrap::open(key, setting(rate), setting(tag)).ok()
 }
 
 // Whether a session's lanes are the state of a line, in block order.

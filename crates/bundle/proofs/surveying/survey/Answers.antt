@@ -17,7 +17,7 @@ returns-then-bundle-ne-VERSION c = rw c.into-then-bundle-ne-VERSION.ensures (sea
 pub returns-then-bytes-lt-FIRST : goal.returns-then-bytes-lt-FIRST
 unfolding surveys
 returns-then-bytes-lt-FIRST c =
-    elim c.then-bytes-lt-FIRST.branch [ goal.then-bytes-lt-FIRST-via-then-bytes-lt-FIRST w ↦ search (rules, tables) | goal.then-bytes-lt-FIRST-via-else-bytes-lt-FIRST+then-read_u32-bytes w ↦ search (rules, tables) depth 8 ]
+    elim c.then-bytes-lt-FIRST.branch [ goal.then-bytes-lt-FIRST-via-then-bytes-lt-FIRST w ↦ search (rules, tables) | goal.then-bytes-lt-FIRST-via-else-bytes-lt-FIRST+then-read-bytes w ↦ search (rules, tables) depth 8 ]
 
 pub returns : goal.returns
 unfolding surveys
