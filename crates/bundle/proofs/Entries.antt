@@ -37,11 +37,18 @@ module _ (v : Version) (b : List ℕ) (place : ℕ) where
     entry_past h l =
         rw (le-ltb (length b - place) 6 some, le-ltb most_body (body_length b place) h, lt-ltb (length b) (next_at v b place) l)
 
+    pub entry_found : (h m n : ℕ) → h ≡ header_length b place → m ≡ body_length b place → n ≡ next_at v b place → m ≤ most_body → n ≤ length b
+        → Ok (record { header = h; body = m; next = n }) ≡ entry_at v b place
+    unfolding entry_at pick
+    entry_found h m n eh em en l x =
+        rw (eh, em, en, le-ltb (length b - place) 6 some, le-ltb most_body (body_length b place) (omega arith), le-ltb (length b) (next_at v b place) (omega arith))
+
+pub ruleset entry_rules = (entry_short, entry_large, entry_past, entry_found)
+
+-- so of one that stands as a record
 pub entry_whole : {v : Version} {b : List ℕ} {place : ℕ} {e : Entry} → WholeAt v b place e → Ok e ≡ entry_at v b place
-unfolding entry_at pick
 entry_whole {v} {b} {place} {e} w =
-    let parts : ◌≡◌ {A = Entry} (record { header = e.header; body = e.body; next = e.next }) (record { header = header_length b place; body = body_length b place; next = next_at v b place }) = cc in
-    rw (le-ltb (length b - place) 6 (omega arith), le-ltb most_body (body_length b place) (omega arith), le-ltb (length b) (next_at v b place) (omega arith)) (ap Ok parts)
+    entry_found v b place (omega arith) e.header e.body e.next w.is_header w.is_body w.is_next w.small w.ends
 
 -- what a whole entry tells
 unless : (t : Bool) (x : NoEntry) (r : Result Entry NoEntry) (e : Entry) → pick t (Err x) r ≡ Ok e → (t ≡ false) × (r ≡ Ok e)
@@ -104,6 +111,8 @@ module _ (v : Version) (b : List ℕ) (k : ℕ) (e : Result Entry NoEntry) (t : 
   pub last_good : t ≡ false → accepted (k ∷ []) ≡ last v b k
   unfolding last
   last_good h = let z : unlabelled (entry_at v b 5) ≡ false = cc in goes 5 (passed 11 z refl) refl refl
+
+pub ruleset walk_rules = (whole_at, walk_end, walk_full, walk_bad, walk_next, last_bad, last_good)
 
 -- ---- the survey, past its first rows
 

@@ -20,16 +20,24 @@ use Rattle.spongewrap.specs.declared.Session.{Session}
 use Rattle.bundle.specs.declared.Entry.{Entry}
 use Rattle.bundle.specs.declared.NoEntry.{NoEntry}
 use Rattle.bundle.specs.Format.{Version, header_length, body_length, header_at, cipher_at, next_at, WholeAt, entry_at}
-use Rattle.bundle.specs.Answers.{refused, own, entry_told, seen}
+use Rattle.bundle.specs.declared.Fault.{Fault}
+use Rattle.bundle.specs.Answers.{own, fault_told, entry_told, refused_reply, seen}
 use Rattle.bundle.specs.Opening.{last_rows, open_table, body_at, unwraps_at, opens_entry}
-use Rattle.bundle.proofs.Tables.{goes, fit, unwrap_rows, settle_stops, settle_by}
+use Rattle.bundle.proofs.Tables.{stops_by, goes, fit, unwrap_rows, settle_stops, settle_by}
 use Rattle.bundle.proofs.Entries.{whole_at, entry_bad}
 
--- no entry is whole there
-pub open_bad : (v : Version) (s : Session) (b : List ℕ) (place : ℕ) (o : List ℕ) (x : NoEntry) (r : Refusal) (p : ℕ) → first (own v s) ≡ 0 → Err x ≡ entry_at v b place
-    → refused (number_of r) p ≡ entry_told (Err x) place → seen (record { number = number_of r; place = p; next = 0; session = s }) o ≡ opens_entry v s b place o
-unfolding opens_entry open_table
-open_bad v s b place o x r p z e f = settle_stops _ s _ o _ r p (goes place (sym z) refl (entry_bad x _ place _ _ e f))
+-- the session is refused, or no entry is whole there
+module _ (v : Version) (s : Session) (b : List ℕ) (place : ℕ) (o : List ℕ) where
+  pub open_own : (r : Refusal) → number_of r ≡ first (own v s) → seen (refused_reply (record { fault = record { refusal = r; place = place }; session = s })) o ≡ opens_entry v s b place o
+  unfolding opens_entry open_table
+  open_own r e = settle_stops _ s _ o _ r place (stops_by r place _ e)
+
+  pub open_bad : (x : NoEntry) (f : Fault) → 0 ≡ first (own v s) → Err x ≡ entry_at v b place → fault_told f ≡ entry_told (Err x) place
+      → seen (refused_reply (record { fault = f; session = s })) o ≡ opens_entry v s b place o
+  unfolding opens_entry open_table
+  open_bad x f z e t = settle_stops _ s _ o _ f.refusal f.place (goes place z refl (entry_bad x _ place _ _ e t))
+
+pub ruleset open_rules = (open_own, open_bad)
 
 -- the parts that the code lends are those of the entry
 pub parts_lent : (v : Version) (s : Session) (b : List ℕ) (place : ℕ) (e : Entry) (a : Unwrap) (o o' : List ℕ) → WholeAt v b place e

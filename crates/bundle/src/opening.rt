@@ -10,6 +10,7 @@ use crate::{Entry, Fault, Opened, Refused, format, own_refusal};
 use spongewrap::Session;
 
 // Unwraps the parts of the whole entry at a place.
+#[tactic(auto, using(crate::proofs::Openings::parts_lent))]
 fn unwrap_at(
     s: Session,
     bundle: &[u8],
@@ -33,6 +34,7 @@ fn unwrap_at(
 }
 
 // Opens the whole entry at a place, past the checks of session and entry. A refusal carries the place that was asked for.
+#[tactic(auto, using(crate::proofs::Entries::whole_at))]
 fn open_whole(
     s: Session,
     bundle: &[u8],
@@ -60,6 +62,7 @@ fn open_whole(
 
 // Opens the entry at a place (document 01, "Bundle, version 1"): its body goes to the first bytes of `out`, and the answer says where the next entry stands.
 // A refusal carries the place that was asked for.
+#[tactic(auto, using(crate::proofs::Openings::open_rules))]
 pub fn open_entry(
     s: Session,
     bundle: &[u8],

@@ -11,6 +11,7 @@ use refusal::Refusal;
 const MOST_ENTRIES: usize = 65_535;
 
 // Whether what stands in the place of entry zero is unfit to be it.
+#[tactic(auto, unfolding(crate::specs::Survey::unlabelled))]
 fn is_unlabelled(zero: Result<Entry, NoEntry>) -> bool
     ensures { result ≡ unlabelled zero }
 {
@@ -21,6 +22,7 @@ fn is_unlabelled(zero: Result<Entry, NoEntry>) -> bool
 }
 
 // The entries of a bundle whose first bytes are right, in one pass; last, entry zero.
+#[tactic(auto, using(crate::proofs::Entries::walk_rules))]
 fn survey_entries(bundle: &[u8]) -> Result<usize, Fault>
     ensures { survey_told result ≡ entries_from version1 bundle.now 5 0 }
 {
@@ -49,6 +51,7 @@ fn survey_entries(bundle: &[u8]) -> Result<usize, Fault>
 }
 
 // The survey (document 01, "Bundle, version 1"): whether bytes are a bundle, and of how many entries. No tag is looked at: a bundle is open when each entry has opened.
+#[tactic(auto, using(crate::proofs::Tables::tables), unfolding(crate::specs::Survey::surveys))]
 pub fn survey(bundle: &[u8]) -> Result<usize, Fault>
     ensures { survey_told result ≡ surveys version1 bundle.now }
 {

@@ -15,6 +15,7 @@ use refusal::Refusal;
 use spongewrap::{Session, orders};
 
 // Writes what stands before an entry's ciphertext: the two lengths and the header. Answers the ciphertext's place.
+#[tactic(auto, using(crate::proofs::Stores::front_written))]
 fn write_front(header: &[u8], body: usize, bundle: &mut [u8], place: usize) -> usize
     requires { (length header.now ≤ most_header) × (body ≤ most_body) × (place + 6 + length header.now ≤ length bundle.old) }
     ensures { (result ≡ place + 6 + length header.now) × (bundle.new ≡ sets bundle.old place (front_of header.now body)) }
@@ -38,6 +39,7 @@ fn write_entry(s: Session, header: &[u8], body: &[u8], bundle: &mut [u8], place:
 }
 
 // The refusals of a start, by the lengths of its label and buffer. Each carries place 0.
+#[tactic(auto, using(crate::proofs::Tables::table_rules), unfolding(crate::specs::Writing::start_table))]
 fn start_refusal(s: Session, label: usize, room: usize) -> Result<(), Refusal>
     ensures { refused (told result) 0 ≡ start_table version1 s label room }
 {
@@ -52,6 +54,7 @@ fn start_refusal(s: Session, label: usize, room: usize) -> Result<(), Refusal>
 }
 
 // Writes the version, the length, and entry zero with its label.
+#[tactic(auto, using(crate::proofs::Stores::first_written))]
 fn write_first(s: Session, label: &[u8], bundle: &mut [u8]) -> Session
     requires { Ready version1 s (length label.now) 0 × (5 + size version1 (length label.now) 0 ≤ length bundle.old) }
     ensures { (result ≡ next desk s label.now []) × (bundle.new ≡ sets bundle.old 0 (bundle_of version1 s label.now)) }
@@ -62,6 +65,7 @@ fn write_first(s: Session, label: &[u8], bundle: &mut [u8]) -> Session
 }
 
 // Starts a bundle (document 01, "Bundle, version 1": Start).
+#[tactic(auto, using(crate::proofs::Stores::start_rules))]
 pub fn start(s: Session, label: &[u8], bundle: &mut [u8]) -> Result<Session, Refused>
     ensures { seen (session_reply result) bundle.new ≡ starts version1 s label.now bundle.old }
 {
@@ -75,6 +79,7 @@ pub fn start(s: Session, label: &[u8], bundle: &mut [u8]) -> Result<Session, Ref
 }
 
 // Where the bundle in a buffer ends, by its stated length; none where that is past the buffer.
+#[tactic(auto, using(crate::proofs::Stores::end_rules))]
 pub fn end_of(bundle: &[u8]) -> Option<usize>
     ensures stated { result ≡ end_in bundle.now }
     ensures within { IfSome result (λ end. end ≤ length bundle.now) }
@@ -90,6 +95,7 @@ pub fn end_of(bundle: &[u8]) -> Option<usize>
 }
 
 // The refusals of an add, by the lengths of its header and body; else the place of the new entry. Of the buffer, the first five bytes are read.
+#[tactic(auto, using(crate::proofs::Tables::table_rules), unfolding(crate::specs::Writing::add_table))]
 fn add_place(s: Session, bundle: &[u8], header: usize, body: usize) -> Result<usize, Fault>
     ensures told { check_told result ≡ add_table version1 s bundle.now header body }
     ensures place { IfOk result (λ place. place ≡ end_of bundle.now) }
@@ -105,6 +111,7 @@ fn add_place(s: Session, bundle: &[u8], header: usize, body: usize) -> Result<us
 }
 
 // The buffer's own first bytes, and then the room that an entry more would take.
+#[tactic(auto, using(crate::proofs::Stores::buffer_rules), unfolding(crate::specs::Writing::buffer_table))]
 fn buffer_place(bundle: &[u8], header: usize, body: usize) -> Result<usize, Fault>
     requires { (header ≤ most_header) × (body ≤ most_body) }
     ensures told { check_told result ≡ buffer_table version1 bundle.now header body }
@@ -131,6 +138,7 @@ fn buffer_place(bundle: &[u8], header: usize, body: usize) -> Result<usize, Faul
 }
 
 // Writes an entry at the stated end of the bundle, and raises the stated length.
+#[tactic(auto, using(crate::proofs::Stores::last_written))]
 fn write_last(s: Session, header: &[u8], body: &[u8], bundle: &mut [u8], end: usize) -> Session
     requires ready { Ready version1 s (length header.now) (length body.now) }
     requires stated { end ≡ end_of bundle.old }
@@ -145,6 +153,7 @@ fn write_last(s: Session, header: &[u8], body: &[u8], bundle: &mut [u8], end: us
 }
 
 // Adds an entry to the bundle (document 01, "Bundle, version 1": Add). All other bytes stand.
+#[tactic(auto, using(crate::proofs::Stores::add_rules))]
 pub fn add(s: Session, header: &[u8], body: &[u8], bundle: &mut [u8]) -> Result<Session, Refused>
     ensures { seen (session_reply result) bundle.new ≡ adds version1 s header.now body.now bundle.old }
 {
