@@ -18,37 +18,15 @@ use Rattle.bundle.specs.Format.{Version, most, header_length, body_length, next_
 use Rattle.bundle.specs.Answers.{Told, refused, accepted, ◌or_else◌, entry_told}
 use Rattle.bundle.specs.Survey.{unlabelled, last, walk_entries, entries_from, surveys}
 use Rattle.refusal.proofs.Rows.{taken, passed}
-use Rattle.bundle.proofs.Tables.{stops_at, goes}
+use Rattle.bundle.proofs.Tables.{stops_at, goes_on}
 
 -- ---- the rules
 
-module _ (v : Version) (b : List ℕ) (place : ℕ) where
-  pub entry_short : length b - place < 6 → Err Short ≡ entry_at v b place
-  unfolding entry_at pick
-  entry_short h = rw (lt-ltb (length b - place) 6 h)
-
-  module _ (some : 6 ≤ length b - place) where
-    pub entry_large : most_body < body_length b place → Err Large ≡ entry_at v b place
-    unfolding entry_at pick
-    entry_large h = rw (le-ltb (length b - place) 6 some, lt-ltb most_body (body_length b place) h)
-
-    pub entry_past : body_length b place ≤ most_body → length b < next_at v b place → Err Past ≡ entry_at v b place
-    unfolding entry_at pick
-    entry_past h l =
-        rw (le-ltb (length b - place) 6 some, le-ltb most_body (body_length b place) h, lt-ltb (length b) (next_at v b place) l)
-
-    pub entry_found : (h m n : ℕ) → h ≡ header_length b place → m ≡ body_length b place → n ≡ next_at v b place → m ≤ most_body → n ≤ length b
-        → Ok (record { header = h; body = m; next = n }) ≡ entry_at v b place
-    unfolding entry_at pick
-    entry_found h m n eh em en l x =
-        rw (eh, em, en, le-ltb (length b - place) 6 some, le-ltb most_body (body_length b place) (omega arith), le-ltb (length b) (next_at v b place) (omega arith))
-
-pub ruleset entry_rules = (entry_short, entry_large, entry_past, entry_found)
-
--- so of one that stands as a record
 pub entry_whole : {v : Version} {b : List ℕ} {place : ℕ} {e : Entry} → WholeAt v b place e → Ok e ≡ entry_at v b place
+unfolding entry_at pick
 entry_whole {v} {b} {place} {e} w =
-    entry_found v b place (omega arith) e.header e.body e.next w.is_header w.is_body w.is_next w.small w.ends
+    let parts : ◌≡◌ {A = Entry} (record { header = e.header; body = e.body; next = e.next }) (record { header = header_length b place; body = body_length b place; next = next_at v b place }) = cc in
+    rw (le-ltb (length b - place) 6 (omega arith), le-ltb most_body (body_length b place) (omega arith), le-ltb (length b) (next_at v b place) (omega arith)) (ap Ok parts)
 
 -- what a whole entry tells
 unless : (t : Bool) (x : NoEntry) (r : Result Entry NoEntry) (e : Entry) → pick t (Err x) r ≡ Ok e → (t ≡ false) × (r ≡ Ok e)
@@ -110,7 +88,7 @@ module _ (v : Version) (b : List ℕ) (k : ℕ) (e : Result Entry NoEntry) (t : 
 
   pub last_good : t ≡ false → accepted (k ∷ []) ≡ last v b k
   unfolding last
-  last_good h = let z : unlabelled (entry_at v b 5) ≡ false = cc in goes 5 (passed 11 z refl) refl refl
+  last_good h = let z : unlabelled (entry_at v b 5) ≡ false = cc in goes_on 5 (passed 11 z refl) refl
 
 pub ruleset walk_rules = (whole_at, walk_end, walk_full, walk_bad, walk_next, last_bad, last_good)
 

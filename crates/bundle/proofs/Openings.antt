@@ -7,7 +7,7 @@ use lib.ListN.{length, get_or, take, drop, length-drop}
 use lib.Seq.{length-take-le}
 use mir.Syntax.{w8}
 use mir.Val.{Fits}
-use Rattle.std.specs.Prelude.{Result, Ok, Err}
+use Rattle.std.specs.Prelude.{Ok, Err}
 use Rattle.fields.proofs.Numbers.{number_two}
 use Rattle.spongewrap.specs.Desk.{desk}
 use Rattle.refusal.specs.Rows.{by, first}
@@ -23,7 +23,7 @@ use Rattle.bundle.specs.Format.{Version, header_length, body_length, header_at, 
 use Rattle.bundle.specs.declared.Fault.{Fault}
 use Rattle.bundle.specs.Answers.{own, fault_told, entry_told, refused_reply, seen}
 use Rattle.bundle.specs.Opening.{last_rows, open_table, body_at, unwraps_at, opens_entry}
-use Rattle.bundle.proofs.Tables.{stops_by, goes, fit, unwrap_rows, settle_stops, settle_by}
+use Rattle.bundle.proofs.Tables.{stops_by, goes_on, fit, unwrap_rows, settle_stops, settle_by}
 use Rattle.bundle.proofs.Entries.{whole_at, entry_bad}
 
 -- the session is refused, or no entry is whole there
@@ -35,7 +35,7 @@ module _ (v : Version) (s : Session) (b : List ℕ) (place : ℕ) (o : List ℕ)
   pub open_bad : (x : NoEntry) (f : Fault) → 0 ≡ first (own v s) → Err x ≡ entry_at v b place → fault_told f ≡ entry_told (Err x) place
       → seen (refused_reply (record { fault = f; session = s })) o ≡ opens_entry v s b place o
   unfolding opens_entry open_table
-  open_bad x f z e t = settle_stops _ s _ o _ f.refusal f.place (goes place z refl (entry_bad x _ place _ _ e t))
+  open_bad x f z e t = settle_stops _ s _ o _ f.refusal f.place (goes_on place z (entry_bad x _ place _ _ e t))
 
 pub ruleset open_rules = (open_own, open_bad)
 

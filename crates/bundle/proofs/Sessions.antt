@@ -10,14 +10,14 @@ use mir.Val.{Fits}
 use mir.Syntax.{w8}
 use Rattle.std.specs.Prelude.{Result, Ok, Err}
 use Rattle.refusal.specs.Rows.{first, by}
-use Rattle.refusal.proofs.Rows.{passed, clear_first}
+use Rattle.refusal.proofs.Rows.{clear_first}
 use Rattle.compare.proofs.Same.{same_is}
 use Rattle.spongewrap.specs.Desk.{desk}
 use Rattle.spongewrap.specs.Sessions.{next, tag_of, opens, wraps, foreign, Seen as Called}
 use Rattle.spongewrap.specs.History.{Call, content, after_calls, answered, accepted_pairs, pair_with, Tells}
 use Rattle.spongewrap.specs.History.Call.{wrapping}
 use Rattle.spongewrap.specs.declared.Session.{Session}
-use Rattle.spongewrap.proofs.Theorems.{wrap_number, wrapped_is}
+use Rattle.spongewrap.proofs.Theorems.{wrapped_is}
 use Rattle.spongewrap.proofs.Histories.{history_tells}
 use Rattle.bundle.specs.declared.Entry.{Entry}
 use Rattle.bundle.specs.declared.NoEntry.{NoEntry}
@@ -26,7 +26,7 @@ use Rattle.bundle.specs.Answers.{Told, own, ◌or_else◌, entry_told, Seen}
 use Rattle.bundle.specs.Opening.{last_rows, open_table, body_at, unwraps_at, opens_entry}
 use Rattle.bundle.specs.Writing.{Ready, starts}
 use Rattle.bundle.specs.Contents.{Pair, labelled, after_pairs}
-use Rattle.bundle.proofs.Tables.{through, fit, wrap_rows}
+use Rattle.bundle.proofs.Tables.{through}
 use Rattle.bundle.proofs.Entries.{whole_at}
 use Rattle.bundle.proofs.Contents.{adds_all, AllAdded, Sealed}
 use Rattle.bundle.proofs.Openings.{open_told, open_is}

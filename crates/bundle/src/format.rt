@@ -36,7 +36,7 @@ pub fn entry_size(header: usize, body: usize) -> usize
 }
 
 // The entry at a place, by the entry rules (document 01, "Bundle, version 1"), up to the end of the lent bytes.
-#[tactic(auto, using(crate::proofs::Entries::entry_rules))]
+#[tactic(auto, using(crate::proofs::Tables::tables), unfolding(crate::specs::Format::entry_at))]
 pub fn entry_at(bundle: &[u8], place: usize) -> Result<Entry, NoEntry>
     ensures { result ≡ entry_at version1 bundle.now place }
 {

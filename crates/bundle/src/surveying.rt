@@ -21,7 +21,8 @@ fn is_unlabelled(zero: Result<Entry, NoEntry>) -> bool
     }
 }
 
-// The entries of a bundle whose first bytes are right, in one pass; last, entry zero.
+// The entries of a bundle whose first bytes are right, in one pass; last, entry zero. The place goes on by what each entry says of the
+// next, and not by an index: an iterator would hand on place and cause with each entry, and be no plainer.
 #[tactic(auto, using(crate::proofs::Entries::walk_rules))]
 fn survey_entries(bundle: &[u8]) -> Result<usize, Fault>
     ensures { survey_told result ≡ entries_from version1 bundle.now 5 0 }

@@ -39,7 +39,7 @@ fn write_entry(s: Session, header: &[u8], body: &[u8], bundle: &mut [u8], place:
 }
 
 // The refusals of a start, by the lengths of its label and buffer. Each carries place 0.
-#[tactic(auto, using(crate::proofs::Tables::table_rules), unfolding(crate::specs::Writing::start_table))]
+#[tactic(auto, using(crate::proofs::Tables::tables), unfolding(crate::specs::Writing::start_table))]
 fn start_refusal(s: Session, label: usize, room: usize) -> Result<(), Refusal>
     ensures { refused (told result) 0 ≡ start_table version1 s label room }
 {
@@ -79,7 +79,7 @@ pub fn start(s: Session, label: &[u8], bundle: &mut [u8]) -> Result<Session, Ref
 }
 
 // Where the bundle in a buffer ends, by its stated length; none where that is past the buffer.
-#[tactic(auto, using(crate::proofs::Stores::end_rules))]
+#[tactic(auto, using(crate::proofs::Tables::tables), unfolding(crate::specs::Writing::end_in))]
 pub fn end_of(bundle: &[u8]) -> Option<usize>
     ensures stated { result ≡ end_in bundle.now }
     ensures within { IfSome result (λ end. end ≤ length bundle.now) }
@@ -95,7 +95,7 @@ pub fn end_of(bundle: &[u8]) -> Option<usize>
 }
 
 // The refusals of an add, by the lengths of its header and body; else the place of the new entry. Of the buffer, the first five bytes are read.
-#[tactic(auto, using(crate::proofs::Tables::table_rules), unfolding(crate::specs::Writing::add_table))]
+#[tactic(auto, using(crate::proofs::Tables::tables), unfolding(crate::specs::Writing::add_table))]
 fn add_place(s: Session, bundle: &[u8], header: usize, body: usize) -> Result<usize, Fault>
     ensures told { check_told result ≡ add_table version1 s bundle.now header body }
     ensures place { IfOk result (λ place. place ≡ end_of bundle.now) }
