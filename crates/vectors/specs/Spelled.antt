@@ -1,5 +1,5 @@
 -- What the lines of the files spell: digits, numbers, bytes, and the field after a name.
-use Rattle.std.specs.Prelude.{◌≡◌, ℕ, ◌+◌, ◌-◌, ◌*◌, ◌%◌, ◌<◌, ◌≤◌, List, [], ◌∷◌, Bool, eqb, ltb, length, take, drop, get_or}
+use Rattle.std.specs.Prelude.{◌≡◌, ◌⊎◌, codes, ℕ, ◌+◌, ◌-◌, ◌*◌, ◌%◌, ◌<◌, ◌≤◌, List, [], ◌∷◌, Bool, eqb, ltb, length, take, drop, get_or}
 use Rattle.refusal.specs.Rows.{pick}
 use Rattle.compare.specs.Same.{same}
 
@@ -46,3 +46,7 @@ number_after line name n = pick (eqb (length (value line name)) 0) n (number_fro
 -- where the line from a on ends whose newline is at e: before a return
 unfoldable pub line_end : ℕ → ℕ → List ℕ → ℕ
 line_end a e b = pick (ltb a e) (pick (eqb (get_or b (e - 1) 0) 13) (e - 1) e) e
+
+-- the line ends a case of NIST's: it has a digest or an output
+abbrev pub HasResult : List ℕ → Type 0
+HasResult line = (0 < length (value line (codes "MD = "))) ⊎ (0 < length (value line (codes "Output = ")))

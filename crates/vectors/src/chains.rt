@@ -4,6 +4,7 @@
 ghost use Rattle.std.specs.Prelude.{◌≡◌, ◌+◌, ◌-◌, ◌%◌, ◌≤◌};
 ghost use Rattle.vectors.specs.Bounds.{Chain};
 ghost use Rattle.vectors.specs.Chains.{chosen, linked, links};
+ghost use Rattle.vectors.specs.Spelled.{HasResult};
 
 use crate::cases::Cases;
 use crate::hashes::Hash;
@@ -134,6 +135,8 @@ impl Chains {
 }
 
 impl Cases for Chains {
+    ghost Ends = { HasResult };
+
     fn read(&mut self, line: &[u8]) -> Option<bool> {
         self.lengths.read(line);
         let Some(digits) = named::result(line) else {

@@ -1,6 +1,7 @@
 // The files of single messages: short, long, and of variable output.
 ghost use Rattle.std.specs.Prelude.{◌≡◌, ◌≤◌, eqb};
 ghost use Rattle.refusal.specs.Rows.{pick};
+ghost use Rattle.vectors.specs.Spelled.{HasResult};
 
 use crate::cases::Cases;
 use crate::hashes::Hash;
@@ -49,6 +50,8 @@ impl Messages {
 }
 
 impl Cases for Messages {
+    ghost Ends = { HasResult };
+
     fn read(&mut self, line: &[u8]) -> Option<bool> {
         self.input = named::number_after(line, b"Len = ", self.input);
         self.input = named::number_after(line, b"[Input Length = ", self.input);

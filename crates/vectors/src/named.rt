@@ -1,6 +1,6 @@
 // The fields of a line: a name, and a number or bytes in hexadecimal digits after it.
-ghost use Rattle.std.specs.Prelude.{◌≡◌, ◌≤◌, ◌<◌, [], ◌++◌, length, drop, MatchOption, IfSome, IsNone};
-ghost use Rattle.vectors.specs.Spelled.{IsWhole, byte, bytes, digit, is_named, number_after, number_from, value};
+ghost use Rattle.std.specs.Prelude.{◌≡◌, ◌≤◌, ◌<◌, [], ◌++◌, length, drop, MatchOption, IfSome, IsNone, IsSome, ◌↔◌};
+ghost use Rattle.vectors.specs.Spelled.{HasResult, IsWhole, byte, bytes, digit, is_named, number_after, number_from, value};
 
 // Whether the line starts with the name.
 #[tactic(auto, using(crate::proofs::Spelled::named_is))]
@@ -82,6 +82,8 @@ pub fn number_after(line: &[u8], name: &[u8], before: usize) -> usize
 }
 
 // The digits of a line that ends a case: of its digest or its output. None where the line has neither.
-pub fn result(line: &[u8]) -> Option<&[u8]> {
+pub fn result(line: &[u8]) -> Option<&[u8]>
+    ensures { IsSome result ↔ HasResult line.now }
+{
     value(line, b"MD = ").or(value(line, b"Output = "))
 }

@@ -1,10 +1,11 @@
 // The file of sessions: each is opened, its pairs are sealed and opened again one after the other, and the state that it comes to is
 // compared. A session of the file is one case, which agrees if all of this does.
-ghost use Rattle.std.specs.Prelude.{◌≡◌, None, Some, eqb};
+ghost use Rattle.std.specs.Prelude.{◌≡◌, IsTrue, None, Some, codes, eqb};
 ghost use Rattle.refusal.specs.Rows.{pick};
 ghost use Rattle.spongewrap.specs.Desk.{desk};
 ghost use Rattle.spongewrap.specs.Sessions.{opens};
 ghost use Rattle.vectors.specs.Bounds.{setting};
+ghost use Rattle.vectors.specs.Spelled.{is_named};
 
 use crate::cases::Cases;
 use crate::named;
@@ -84,26 +85,28 @@ impl Sessions {
             && stands_at(s, line)
     }
 
-    // The session from the key of a line.
-    fn opened(&self, line: &[u8]) -> Option<Session> {
+    // The session after a line, which may have its key or end a pair.
+    fn moved(&mut self, line: &[u8]) -> Option<Session> {
         let mut key = Text::<256>::empty();
-        key.read(line, b"Key =");
-        opened(key.bytes(), self.stated.rate, self.stated.tag)
+        if key.read(line, b"Key =") {
+            return opened(key.bytes(), self.stated.rate, self.stated.tag);
+        }
+        if self.pair.read(line) {
+            return self.pair.passed(self.session?);
+        }
+        self.session
     }
 }
 
 impl Cases for Sessions {
+    ghost Ends = { λ line. IsTrue (is_named line (codes "State =")) };
+
     fn read(&mut self, line: &[u8]) -> Option<bool> {
         if named::is_named(line, b"State =") {
             return Some(self.ends(line));
         }
         self.stated.read(line);
-        if named::is_named(line, b"Key =") {
-            self.session = self.opened(line);
-        }
-        if self.pair.read(line) {
-            self.session = self.pair.passed(self.session?);
-        }
+        self.session = self.moved(line);
         None
     }
 }
