@@ -30,7 +30,8 @@ impl Lengths {
     }
 }
 
-// A link of the chain: one output, at the front of 256 bytes of zeros; how long it is, and how long the next one will be.
+// A link of the chain: one output, at the front of 256 bytes of zeros; how long it is, and how long the next one will be. The
+// definition of a chain speaks of these three, so the length stands beside the bytes.
 #[derive(Clone, Copy)]
 struct Link {
     output: [u8; 256],

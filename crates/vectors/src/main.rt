@@ -29,6 +29,11 @@ use sessions::Sessions;
 use std::rt::Files;
 use std::{fs, io};
 
+// How many lines are read of a file of NIST's, and of one of sessions or bundles.
+const NIST_LINES: u64 = 65_536;
+
+const OTHER_LINES: u64 = 65_535;
+
 // Runs a file of no more than `most` lines through its cases and prints what came of it.
 fn reported(
     rt: &(impl Files + Print),
@@ -55,9 +60,9 @@ fn hash_reported(
     chains: &str,
 ) -> io::Result<()> {
     for name in messages {
-        reported(rt, name, &mut Messages::new(hash), 65_536)?;
+        reported(rt, name, &mut Messages::new(hash), NIST_LINES)?;
     }
-    reported(rt, chains, &mut Chains::new(hash), 65_536)
+    reported(rt, chains, &mut Chains::new(hash), NIST_LINES)
 }
 
 fn main(rt: HostRuntime) -> io::Result<()> {
@@ -87,7 +92,12 @@ fn main(rt: HostRuntime) -> io::Result<()> {
         ],
         "SHAKE256Monte.rsp",
     )?;
-    reported(&rt, "SpongeWrap_sessions.rsp", &mut Sessions::new(), 65_535)?;
-    reported(&rt, "Bundle_v1.rsp", &mut Bundles::new(), 65_535)?;
+    reported(
+        &rt,
+        "SpongeWrap_sessions.rsp",
+        &mut Sessions::new(),
+        OTHER_LINES,
+    )?;
+    reported(&rt, "Bundle_v1.rsp", &mut Bundles::new(), OTHER_LINES)?;
     examples::print_all(&rt)
 }

@@ -18,6 +18,7 @@ pub struct Messages {
 }
 
 // The bits that the files spell for a message of so many: an empty one is spelled as one byte.
+#[tactic(auto, using(refusal::proofs::Rows::rows))]
 fn spelled(bits: usize) -> usize
     ensures { (result ≡ pick (eqb bits 0) 8 bits) × (bits ≤ result) }
 {

@@ -19,7 +19,7 @@ pub fn value<'a>(line: &'a [u8], name: &[u8]) -> Option<&'a [u8]>
     if after.is_empty() { None } else { Some(after) }
 }
 
-// The value of a digit; none where the byte is no digit.
+// The value of a digit; none where the byte is no digit. By hand, since std's `to_digit` takes capital letters too.
 fn digit(b: u8) -> Option<u8>
     ensures { MatchOption result (digit b ≡ 16) (λ d. (d ≡ digit b) × (d < 16)) }
 {
@@ -30,7 +30,8 @@ fn digit(b: u8) -> Option<u8>
     }
 }
 
-// The decimal number that the text starts with. The largest of the files is below a million.
+// The decimal number that the text starts with. The largest of the files is below a million. By hand, since std's `parse` refuses
+// a text with more behind the number.
 #[tactic(auto, using(crate::proofs::Spelled::read_none, crate::proofs::Spelled::read_more, crate::proofs::Spelled::read_stop, crate::proofs::Spelled::read_all))]
 fn number(text: &[u8]) -> usize
     ensures { result ≡ number_from 0 text.now }

@@ -33,6 +33,7 @@ impl Tally {
     }
 
     // The first that differs once one more does: that one, where all before agreed.
+    #[tactic(auto, using(refusal::proofs::Rows::rows))]
     fn first_differing(self) -> Option<u64>
         ensures { result ≡ differing false self }
     {
