@@ -41,7 +41,6 @@ fn setting(n: usize) -> u16
 }
 
 // A session from a key and settings; none where the open refuses.
-#[tactic(auto, using(refusal::proofs::Rows::rows))]
 fn opened(key: &[u8], rate: usize, tag: usize) -> Option<Session>
     ensures { result ≡ pick (eqb (opens desk key.now (setting rate) (setting tag)).number 0) (Some (opens desk key.now (setting rate) (setting tag)).session) None }
 {
