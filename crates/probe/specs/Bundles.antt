@@ -1,11 +1,11 @@
 -- Calls on bundles: their answers, each in one number.
-use Rattle.std.specs.Prelude.{ℕ, ◌+◌, ◌*◌, ◌%◌, ◌^◌, List, [], ◌∷◌, get_or}
+use Rattle.std.specs.Prelude.{ℕ, ◌+◌, ◌*◌, ◌%◌, ◌^◌, List, [], ◌∷◌, get_or, Result, Ok, Err}
 use Rattle.refusal.specs.Rows.{by}
 use Rattle.bundle.specs.Answers as bundles
-use Rattle.bundle.specs.Answers.{Told}
-use Rattle.bundle.specs.declared.Reply.{Reply}
+use Rattle.bundle.specs.Answers.{Told, Reply}
 use Rattle.bundle.specs.declared.Entry.{Entry}
-use Rattle.bundle.specs.declared.Entry.TheVariants.{Whole, Short, Large, Past}
+use Rattle.bundle.specs.declared.NoEntry.{NoEntry}
+use Rattle.bundle.specs.declared.NoEntry.TheVariants.{Short, Large, Past}
 use Rattle.image.specs.Image.{field_bytes, image_of}
 use Rattle.image.specs.Calls.{Seen, seen}
 
@@ -20,11 +20,11 @@ packed_told t = packed t.number (get_or t.values 0 t.place)
 -- ---- the entry at a place
 
 -- its header's length, its body's and the next place, eight bytes each; or what its cause is, and the buffer e as it was
-abbrev pub of_entry : List ℕ → Entry → Seen
-of_entry e (Whole header body next) = seen 0 (field_bytes ((8, header) ∷ (8, body) ∷ (8, next) ∷ [])) []
-of_entry e Short = seen 1 e []
-of_entry e Large = seen 2 e []
-of_entry e Past = seen 3 e []
+abbrev pub of_entry : List ℕ → Result Entry NoEntry → Seen
+of_entry e (Ok w) = seen 0 (field_bytes ((8, w.header) ∷ (8, w.body) ∷ (8, w.next) ∷ [])) []
+of_entry e (Err Short) = seen 1 e []
+of_entry e (Err Large) = seen 2 e []
+of_entry e (Err Past) = seen 3 e []
 
 -- ---- calls on the session that an image holds
 

@@ -1,10 +1,11 @@
--- An image of another length is refused; else the session that the call left is laid over it.
-use Rattle.image.proofs.Calls.{other_length}
-use Rattle.probe.proofs.Buffers.{entry_opened_is}
+-- The session that the call left is laid over an image of the right length.
+use Rattle.bundle.specs.Format.{version1}
+use Rattle.bundle.specs.Opening.{opens_entry}
+use Rattle.image.proofs.Calls.{on_image}
+use Rattle.probe.specs.Bundles.{of_bundle}
 use Rattle.probe.proofs.bundles.probe_open_entry.Goals as goal
 
-pub returns-then-image-ne-LENGTH : goal.returns-then-image-ne-LENGTH
-returns-then-image-ne-LENGTH c = search other_length
-
 pub returns : goal.returns
-returns c = search entry_opened_is
+returns c =
+    on_image _ _ _ c.in-Some.ensures.cases of_bundle (λ s. opens_entry version1 s c.args.bundle.now c.args.place c.args.body.now) _ c.session_of.ensures
+    _ c.open_entry.ensures _ (rw (c.put_opened.ensures.packed, c.put_opened.ensures.image))
