@@ -23,7 +23,7 @@ const ENTRY: usize = 24;
 fn pack(number: u8, place: usize) -> u64
     ensures { result ≡ packed number place }
 {
-    number as u64 + place as u64 % 0x0100_0000_0000_0000 * 0x100
+    u64::from(number) + place as u64 % 0x0100_0000_0000_0000 * 0x100
 }
 
 // A refusal with its place.
@@ -35,6 +35,7 @@ fn pack_fault(fault: Fault) -> u64
 
 // A refusal with its place, or where the call is accepted the next entry's. The session that the call left is laid over the image, after a
 // refusal too.
+#[tactic(auto, using(refusal::proofs::Rows::kept, refusal::proofs::Numbers::numbered_refusal), unfolding(refusal::specs::Rows::by))]
 fn put_opened(answer: Result<Opened, Refused>, image: &mut [u8; image::LENGTH]) -> u64
     ensures packed { result ≡ packed_answer (opened_reply answer) }
     ensures image { image.new ≡ image_of (opened_reply answer).session }
@@ -71,7 +72,7 @@ pub extern "C" fn probe_survey(bundle: &[u8]) -> u64
 
 // The entry at a place: its header's length, its body's and the next place go to `entry`, eight bytes each, big-endian.
 // Answers 0, or where there is none 1, 2 or 3 for its three causes in the order of the survey.
-#[tactic(auto, using(image::proofs::Calls::other_length))]
+#[tactic(auto, using(image::proofs::Calls::other_length, image::proofs::Calls::right_length))]
 #[unsafe(no_mangle)]
 pub extern "C" fn probe_entry_at(bundle: &[u8], place: u64, entry: &mut [u8]) -> u8
     ensures { seen result entry.new [] ≡ sized 24 entry.old [] (of_entry entry.old (entry_at version1 bundle.now place)) }
@@ -99,7 +100,7 @@ pub extern "C" fn probe_calls_of(header: u64, body: u64) -> u64
     bundle::calls_of(header as usize, body as usize)
 }
 
-#[tactic(auto, using(image::proofs::Calls::other_length))]
+#[tactic(auto, using(image::proofs::Calls::other_length, image::proofs::Calls::right_length))]
 #[unsafe(no_mangle)]
 pub extern "C" fn probe_open_entry(
     image: &mut [u8],
@@ -118,7 +119,7 @@ pub extern "C" fn probe_open_entry(
     )
 }
 
-#[tactic(auto, using(image::proofs::Calls::other_length))]
+#[tactic(auto, using(image::proofs::Calls::other_length, image::proofs::Calls::right_length))]
 #[unsafe(no_mangle)]
 pub extern "C" fn probe_start(image: &mut [u8], label: &[u8], bundle: &mut [u8]) -> u64
     ensures { seen result image.new bundle.new ≡ sized image_length image.old bundle.old (of_bundle (starts version1 (session_of image.old) label.now bundle.old)) }
@@ -132,7 +133,7 @@ pub extern "C" fn probe_start(image: &mut [u8], label: &[u8], bundle: &mut [u8])
     )
 }
 
-#[tactic(auto, using(image::proofs::Calls::other_length))]
+#[tactic(auto, using(image::proofs::Calls::other_length, image::proofs::Calls::right_length))]
 #[unsafe(no_mangle)]
 pub extern "C" fn probe_add(image: &mut [u8], header: &[u8], body: &[u8], bundle: &mut [u8]) -> u64
     ensures { seen result image.new bundle.new ≡ sized image_length image.old bundle.old (of_bundle (adds version1 (session_of image.old) header.now body.now bundle.old)) }

@@ -19,7 +19,7 @@ pub extern "C" fn probe_permute(state: &mut [u8]) -> u8
 }
 
 // The same, many times in one call.
-#[tactic(auto, using(image::proofs::Calls::other_length))]
+#[tactic(auto, using(image::proofs::Calls::other_length, image::proofs::Calls::right_length))]
 #[unsafe(no_mangle)]
 pub extern "C" fn probe_permute_times(state: &mut [u8], times: u64) -> u8
     ensures { seen result state.new [] ≡ sized 200 state.old [] (seen 0 (bytes 64 (iterate f1600 (lanes_of state.old) times)) []) }

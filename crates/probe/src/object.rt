@@ -33,7 +33,7 @@ fn put_object(duplex: Duplex, object: &mut [u8; OBJECT])
 }
 
 // A fresh duplex object at any rate.
-#[tactic(auto, using(image::proofs::Calls::other_length))]
+#[tactic(auto, using(image::proofs::Calls::other_length, image::proofs::Calls::right_length))]
 #[unsafe(no_mangle)]
 pub extern "C" fn probe_new_duplex(rate: u16, object: &mut [u8]) -> u8
     ensures { seen result object.new [] ≡ sized object_length object.old [] (seen 0 (object_of (record { lanes = zeros; rate = rate })) []) }
@@ -46,7 +46,7 @@ pub extern "C" fn probe_new_duplex(rate: u16, object: &mut [u8]) -> u8
 }
 
 // One duplexing, which answers 0 where it is done and 1 where it is not. The object that it left goes back either way.
-#[tactic(auto, using(image::proofs::Calls::other_length))]
+#[tactic(auto, using(image::proofs::Calls::other_length, image::proofs::Calls::right_length))]
 #[unsafe(no_mangle)]
 pub extern "C" fn probe_duplexing(
     object: &mut [u8],

@@ -36,7 +36,7 @@ pub extern "C" fn probe_open(rate: u16, tag: u16, key: &[u8], image: &mut [u8]) 
 }
 
 // The open that takes no settings. A refused one leaves its session of zeros in the image.
-#[tactic(auto, using(image::proofs::Calls::other_length))]
+#[tactic(auto, using(image::proofs::Calls::other_length, image::proofs::Calls::right_length))]
 #[unsafe(no_mangle)]
 pub extern "C" fn probe_default_open(key: &[u8], image: &mut [u8]) -> u8
     ensures { seen result image.new [] ≡ sized image_length image.old [] (of_session (sessions.seen (opens desk key.now default_rate default_tag) [])) }
@@ -49,7 +49,7 @@ pub extern "C" fn probe_default_open(key: &[u8], image: &mut [u8]) -> u8
 
 // Seals a pair through the running session. Each call tests its image itself: one function that takes the rest as a closure was tried, and
 // nothing is known of the lent output behind it.
-#[tactic(auto, using(image::proofs::Calls::other_length))]
+#[tactic(auto, using(image::proofs::Calls::other_length, image::proofs::Calls::right_length))]
 #[unsafe(no_mangle)]
 pub extern "C" fn probe_running_wrap(
     image: &mut [u8],
@@ -69,7 +69,7 @@ pub extern "C" fn probe_running_wrap(
 }
 
 // Opens a pair through the running session.
-#[tactic(auto, using(image::proofs::Calls::other_length))]
+#[tactic(auto, using(image::proofs::Calls::other_length, image::proofs::Calls::right_length))]
 #[unsafe(no_mangle)]
 pub extern "C" fn probe_running_unwrap(
     image: &mut [u8],
