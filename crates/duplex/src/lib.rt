@@ -81,7 +81,7 @@ pub fn absorbed(a: [u64; 25], s: &[u8], mid: u8, last: u8, rate: usize) -> [u64;
     let mut rest = s;
     while most < rest.len() {
         let (piece, after) = rest.split_at(most);
-        let next = duplexed(st, piece, mid, rate);
+        let next = duplexed(st, piece, mid, rate); // the proof rules know no call that is laid straight into an array
         st = next;
         rest = after;
     }
@@ -144,14 +144,15 @@ fn open_piece(a: [u64; 25], p: &[u8], frame: u8, rate: usize, out: &mut [u8]) ->
     duplexed(a, &out[..], frame, rate)
 }
 
-// A ciphertext opened into the first bytes of `out`, and the state after it.
+// A ciphertext opened into the first bytes of `out`, and the state after it. It stays a twin of `sealed_into`: one loop for both would take
+// what is done with a piece as a closure, and say by that closure's clauses what comes of all of them.
 pub fn opened_into(a: [u64; 25], cipher: &[u8], rate: usize, out: &mut [u8]) -> [u64; 25]
     requires { Rate 64 rate × (length cipher.now ≤ length out.old) }
     ensures { (result ≡ absorbed 64 f1600 rate a 1 0 (opened 64 f1600 rate a cipher.now)) × (out.new ≡ opened 64 f1600 rate a cipher.now ++ drop (length cipher.now) out.old) }
 {
     let most = rate - 1;
     let mut st = a;
-    let mut at = 0; // a place, for a loop that went down `out` would leave no more known of it than its length
+    let mut at = 0; // a place, as in `sealed_into`
     while most < cipher.len() - at {
         let e = at + most;
         let next = open_piece(st, &cipher[at..e], 1, rate, &mut out[at..e]);
@@ -208,7 +209,7 @@ pub fn drawn_into(a: [u64; 25], rate: usize, out: &mut [u8]) -> [u64; 25]
 {
     let most = rate - 1;
     let mut st = a;
-    let mut at = 0;
+    let mut at = 0; // a place, as in `sealed_into`
     while most < out.len() - at {
         sponge::put_bytes(st, &mut out[at..at + most]);
         let next = blanked(st, rate);
