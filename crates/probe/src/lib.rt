@@ -13,6 +13,7 @@ ghost use Rattle.probe.specs.States.{lanes_of};
 const STATE: usize = 200;
 
 // The lanes of the state that bytes in block order begin with: of a state, or of a duplex object, which has more bytes.
+// It takes a slice of either: an array of 200 was tried, and asks an object for an `unwrap` and for a second proof that its first bytes are its lanes.
 fn lanes_of(b: &[u8]) -> [u64; 25]
     requires { 200 ≤ length b.now }
     ensures { result ≡ lanes_of b.now }
