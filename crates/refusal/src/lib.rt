@@ -1,7 +1,8 @@
 // What is refused, and by which number. Nobody else spells a number out.
 #![tactic(auto)]
 
-ghost use Rattle.std.specs.Prelude.{◌≡◌, ◌+◌};
+ghost use Rattle.std.specs.Prelude.{◌≡◌, ◌+◌, Some};
+ghost use Rattle.std.specs.Fmt.{decimal};
 ghost use Rattle.refusal.specs.Rows.{outside, short};
 ghost use Rattle.refusal.specs.Limits.{bad_size};
 ghost use Rattle.refusal.specs.Numbers.{number_of, told};
@@ -35,6 +36,8 @@ impl From<Refusal> for u8 {
 
 // A refusal is told by its number.
 impl fmt::Display for Refusal {
+    ghost output = { λ refusal. Some (decimal (number_of refusal)) };
+
     fn fmt<W: fmt::Write>(&self, f: &mut fmt::Formatter<W>) -> fmt::Result {
         write!(f, "{}", u8::from(*self))
     }
