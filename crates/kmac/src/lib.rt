@@ -128,56 +128,96 @@ fn verify_at<const RATE: usize>(
 // ---- the standard's functions, at their rates
 
 // cSHAKE128 (section 3.3). It fills the lent slice, which may be empty; with name and customisation both empty it is SHAKE128.
-pub fn cshake128(name: &[u8], customisation: &[u8], message: &[u8], out: &mut [u8]) -> Result<(), Refusal>
+pub fn cshake128(
+    name: &[u8],
+    customisation: &[u8],
+    message: &[u8],
+    out: &mut [u8],
+) -> Result<(), Refusal>
     ensures { seen (told result) out.new ≡ cshakes 64 f1600 168 name.now customisation.now message.now out.old }
 {
     cshake_at::<168>(name, customisation, message, out)
 }
 
 // cSHAKE256 (section 3.3); with name and customisation both empty it is SHAKE256.
-pub fn cshake256(name: &[u8], customisation: &[u8], message: &[u8], out: &mut [u8]) -> Result<(), Refusal>
+pub fn cshake256(
+    name: &[u8],
+    customisation: &[u8],
+    message: &[u8],
+    out: &mut [u8],
+) -> Result<(), Refusal>
     ensures { seen (told result) out.new ≡ cshakes 64 f1600 136 name.now customisation.now message.now out.old }
 {
     cshake_at::<136>(name, customisation, message, out)
 }
 
 // KMAC128 (section 4.3): a code of the lent slice's length, 16 to 256 bytes, by a key of 16 to 256 bytes.
-pub fn kmac128(key: &[u8], customisation: &[u8], message: &[u8], out: &mut [u8]) -> Result<(), Refusal>
+pub fn kmac128(
+    key: &[u8],
+    customisation: &[u8],
+    message: &[u8],
+    out: &mut [u8],
+) -> Result<(), Refusal>
     ensures { seen (told result) out.new ≡ kmacs 64 f1600 168 key.now customisation.now message.now out.old }
 {
     kmac_at::<168>(key, customisation, message, out)
 }
 
 // KMAC256 (section 4.3).
-pub fn kmac256(key: &[u8], customisation: &[u8], message: &[u8], out: &mut [u8]) -> Result<(), Refusal>
+pub fn kmac256(
+    key: &[u8],
+    customisation: &[u8],
+    message: &[u8],
+    out: &mut [u8],
+) -> Result<(), Refusal>
     ensures { seen (told result) out.new ≡ kmacs 64 f1600 136 key.now customisation.now message.now out.old }
 {
     kmac_at::<136>(key, customisation, message, out)
 }
 
 // KMACXOF128 (section 4.3.1). It fills the lent slice, which may be empty.
-pub fn kmacxof128(key: &[u8], customisation: &[u8], message: &[u8], out: &mut [u8]) -> Result<(), Refusal>
+pub fn kmacxof128(
+    key: &[u8],
+    customisation: &[u8],
+    message: &[u8],
+    out: &mut [u8],
+) -> Result<(), Refusal>
     ensures { seen (told result) out.new ≡ kmacxofs 64 f1600 168 key.now customisation.now message.now out.old }
 {
     kmacxof_at::<168>(key, customisation, message, out)
 }
 
 // KMACXOF256 (section 4.3.1).
-pub fn kmacxof256(key: &[u8], customisation: &[u8], message: &[u8], out: &mut [u8]) -> Result<(), Refusal>
+pub fn kmacxof256(
+    key: &[u8],
+    customisation: &[u8],
+    message: &[u8],
+    out: &mut [u8],
+) -> Result<(), Refusal>
     ensures { seen (told result) out.new ≡ kmacxofs 64 f1600 136 key.now customisation.now message.now out.old }
 {
     kmacxof_at::<136>(key, customisation, message, out)
 }
 
 // Whether a code is KMAC128's of the key, the customisation and the message, at its length.
-pub fn kmac128_verify(key: &[u8], customisation: &[u8], message: &[u8], code: &[u8]) -> Result<bool, Refusal>
+pub fn kmac128_verify(
+    key: &[u8],
+    customisation: &[u8],
+    message: &[u8],
+    code: &[u8],
+) -> Result<bool, Refusal>
     ensures { verdict result ≡ verifies 64 f1600 168 key.now customisation.now message.now code.now }
 {
     verify_at::<168>(key, customisation, message, code)
 }
 
 // Whether a code is KMAC256's.
-pub fn kmac256_verify(key: &[u8], customisation: &[u8], message: &[u8], code: &[u8]) -> Result<bool, Refusal>
+pub fn kmac256_verify(
+    key: &[u8],
+    customisation: &[u8],
+    message: &[u8],
+    code: &[u8],
+) -> Result<bool, Refusal>
     ensures { verdict result ≡ verifies 64 f1600 136 key.now customisation.now message.now code.now }
 {
     verify_at::<136>(key, customisation, message, code)
