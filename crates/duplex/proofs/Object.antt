@@ -8,7 +8,6 @@ use borrow.Author.Tests.{eqb-true, leb-false, ltb-false, not-false}
 use lib.Dec.{eqb, leb, ltb, lit<, lit≤}
 use lib.ListN.{length, take}
 use Rattle.std.proofs.Common.{Ok, Err}
-use Rattle.std.specs.Int.{from_bool}
 use Rattle.refusal.proofs.Tests.{neither}
 use Rattle.keccak.specs.Rounds.{f1600}
 use Rattle.sponge.specs.Bytes.{bytes}
@@ -36,10 +35,6 @@ duplex_passes R piece out e =
       ltb-false R out p.1,
     )
 
-bit_is : (b : Bool) → from_bool b ≡ bit b
-bit_is true = refl
-bit_is false = refl
-
 -- ---- what a call gives
 
 module _ (d : Duplex) (p : List ℕ) (b : Bool) (o : List ℕ) (R : ℕ) (r : R ≡ d.rate) where
@@ -47,7 +42,7 @@ module _ (d : Duplex) (p : List ℕ) (b : Bool) (o : List ℕ) (R : ℕ) (r : R 
   unfolding duplexes duplex_settled
   refusing e = rw (← r, e)
 
-  pub doing : (n : ℕ) (l o' : List ℕ) → duplex_refused R (length p) (length o) ≡ false → n ≡ from_bool b → l ≡ duplexing 64 f1600 R d.lanes p n
+  pub doing : (l o' : List ℕ) → duplex_refused R (length p) (length o) ≡ false → l ≡ duplexing 64 f1600 R d.lanes p (bit b)
       → o' ≡ take (length o) (bytes 64 l) → seen (outcome (Ok (record { lanes = l; rate = d.rate }))) o' ≡ duplexes d p b o
   unfolding duplexes duplex_settled
-  doing n l o' e f h q = rw (← r, e, q, h, f, bit_is)
+  doing l o' e h q = rw (← r, e, q, h)

@@ -8,7 +8,14 @@ ghost use Rattle.sponge.specs.Bytes.{bytes};
 ghost use Rattle.sponge.specs.Sponge.{zeros};
 ghost use Rattle.duplex.specs.Duplex.{Rate, duplexing, blank, drawn, state_after};
 ghost use Rattle.duplex.specs.Strings.{xored, absorbed, sealed, opened};
-ghost use Rattle.duplex.specs.Object.{duplex_refused, outcome, seen, duplexes};
+ghost use Rattle.duplex.specs.Object.{bit, duplex_refused, outcome, seen, duplexes};
+
+// How many bytes of the state a block covers: room for a byte and its frame, in whole lanes.
+#[derive(Clone, Copy)]
+pub struct Rate {
+    pub bytes: usize,
+    ghost fits: { Rate 64 bytes },
+}
 
 // A duplex object: the state, and how many bytes of it a block covers.
 #[derive(Clone, Copy)]
@@ -45,7 +52,7 @@ impl Duplex {
         if is_refused(rate, piece.len(), out.len()) {
             return Err(Refused { duplex: self });
         }
-        let lanes = duplexed(self.lanes, piece, u8::from(frame), rate);
+        let lanes = duplexed(self.lanes, piece, frame, Rate { bytes: rate });
         sponge::put_bytes(lanes, out);
         Ok(Duplex { lanes, ..self })
     }
@@ -61,22 +68,19 @@ fn is_refused(rate: usize, piece: usize, out: usize) -> bool
 
 // One duplexing of a piece.
 #[tactic(auto, unfolding(crate::specs::Duplex::duplexing, crate::specs::Duplex::framed))]
-fn duplexed(a: [u64; 25], piece: &[u8], frame: u8, rate: usize) -> [u64; 25]
-    requires offered { Rate 64 rate }
-    requires room { length piece.now < rate }
-    requires bit { frame < 2 }
-    ensures { result ≡ duplexing 64 f1600 rate a piece.now frame }
+fn duplexed(a: [u64; 25], piece: &[u8], frame: bool, rate: Rate) -> [u64; 25]
+    requires room { length piece.now < rate.bytes }
+    ensures { result ≡ duplexing 64 f1600 rate.bytes a piece.now (bit frame) }
 {
-    sponge::absorbed_piece(a, piece, 2 + frame, rate)
+    sponge::absorbed_piece(a, piece, 2 + u8::from(frame), rate.bytes)
 }
 
 // A string absorbed piece by piece: the frame bit is `mid` but at the last piece, where it is `last`.
 #[tactic(auto, using(crate::proofs::First::absorbed_after, crate::proofs::First::absorbed_only))]
-pub fn absorbed(a: [u64; 25], s: &[u8], mid: u8, last: u8, rate: usize) -> [u64; 25]
-    requires { Rate 64 rate × (mid < 2) × (last < 2) }
-    ensures { result ≡ absorbed 64 f1600 rate a mid last s.now }
+pub fn absorbed(a: [u64; 25], s: &[u8], mid: bool, last: bool, rate: Rate) -> [u64; 25]
+    ensures { result ≡ absorbed 64 f1600 rate.bytes a (bit mid) (bit last) s.now }
 {
-    let most = rate - 1;
+    let most = rate.bytes - 1;
     let mut st = a;
     let mut rest = s;
     while most < rest.len() {
@@ -101,12 +105,10 @@ fn mask_into(a: [u64; 25], p: &[u8], out: &mut [u8])
 }
 
 // One piece of a body sealed: its ciphertext goes to `out`.
-fn seal_piece(a: [u64; 25], p: &[u8], frame: u8, rate: usize, out: &mut [u8]) -> [u64; 25]
-    requires offered { Rate 64 rate }
-    requires room { length p.now < rate }
-    requires bit { frame < 2 }
+fn seal_piece(a: [u64; 25], p: &[u8], frame: bool, rate: Rate, out: &mut [u8]) -> [u64; 25]
+    requires room { length p.now < rate.bytes }
     requires as_long { length out.old ≡ length p.now }
-    ensures state { result ≡ duplexing 64 f1600 rate a p.now frame }
+    ensures state { result ≡ duplexing 64 f1600 rate.bytes a p.now (bit frame) }
     ensures written { out.new ≡ xored p.now (bytes 64 a) }
 {
     mask_into(a, p, out);
@@ -114,30 +116,28 @@ fn seal_piece(a: [u64; 25], p: &[u8], frame: u8, rate: usize, out: &mut [u8]) ->
 }
 
 // A body sealed into the first bytes of `out`, and the state after it.
-pub fn sealed_into(a: [u64; 25], body: &[u8], rate: usize, out: &mut [u8]) -> [u64; 25]
-    requires { Rate 64 rate × (length body.now ≤ length out.old) }
-    ensures { (result ≡ absorbed 64 f1600 rate a 1 0 body.now) × (out.new ≡ sealed 64 f1600 rate a body.now ++ drop (length body.now) out.old) }
+pub fn sealed_into(a: [u64; 25], body: &[u8], rate: Rate, out: &mut [u8]) -> [u64; 25]
+    requires { length body.now ≤ length out.old }
+    ensures { (result ≡ absorbed 64 f1600 rate.bytes a 1 0 body.now) × (out.new ≡ sealed 64 f1600 rate.bytes a body.now ++ drop (length body.now) out.old) }
 {
-    let most = rate - 1;
+    let most = rate.bytes - 1;
     let mut st = a;
     let mut at = 0; // a place, for a loop that went down `out` would leave no more known of it than its length
     while most < body.len() - at {
         let e = at + most;
-        let next = seal_piece(st, &body[at..e], 1, rate, &mut out[at..e]);
+        let next = seal_piece(st, &body[at..e], true, rate, &mut out[at..e]);
         st = next;
         at = e;
     }
     let n = body.len();
-    seal_piece(st, &body[at..n], 0, rate, &mut out[at..n])
+    seal_piece(st, &body[at..n], false, rate, &mut out[at..n])
 }
 
 // One piece of a ciphertext opened: its plaintext goes to `out`, and that is what is absorbed.
-fn open_piece(a: [u64; 25], p: &[u8], frame: u8, rate: usize, out: &mut [u8]) -> [u64; 25]
-    requires offered { Rate 64 rate }
-    requires room { length p.now < rate }
-    requires bit { frame < 2 }
+fn open_piece(a: [u64; 25], p: &[u8], frame: bool, rate: Rate, out: &mut [u8]) -> [u64; 25]
+    requires room { length p.now < rate.bytes }
     requires as_long { length out.old ≡ length p.now }
-    ensures state { result ≡ duplexing 64 f1600 rate a out.new frame }
+    ensures state { result ≡ duplexing 64 f1600 rate.bytes a out.new (bit frame) }
     ensures written { out.new ≡ xored p.now (bytes 64 a) }
 {
     mask_into(a, p, out);
@@ -146,29 +146,27 @@ fn open_piece(a: [u64; 25], p: &[u8], frame: u8, rate: usize, out: &mut [u8]) ->
 
 // A ciphertext opened into the first bytes of `out`, and the state after it. It stays a twin of `sealed_into`: one loop for both would take
 // what is done with a piece as a closure, and say by that closure's clauses what comes of all of them.
-pub fn opened_into(a: [u64; 25], cipher: &[u8], rate: usize, out: &mut [u8]) -> [u64; 25]
-    requires { Rate 64 rate × (length cipher.now ≤ length out.old) }
-    ensures { (result ≡ absorbed 64 f1600 rate a 1 0 (opened 64 f1600 rate a cipher.now)) × (out.new ≡ opened 64 f1600 rate a cipher.now ++ drop (length cipher.now) out.old) }
+pub fn opened_into(a: [u64; 25], cipher: &[u8], rate: Rate, out: &mut [u8]) -> [u64; 25]
+    requires { length cipher.now ≤ length out.old }
+    ensures { (result ≡ absorbed 64 f1600 rate.bytes a 1 0 (opened 64 f1600 rate.bytes a cipher.now)) × (out.new ≡ opened 64 f1600 rate.bytes a cipher.now ++ drop (length cipher.now) out.old) }
 {
-    let most = rate - 1;
+    let most = rate.bytes - 1;
     let mut st = a;
     let mut at = 0; // a place, as in `sealed_into`
     while most < cipher.len() - at {
         let e = at + most;
-        let next = open_piece(st, &cipher[at..e], 1, rate, &mut out[at..e]);
+        let next = open_piece(st, &cipher[at..e], true, rate, &mut out[at..e]);
         st = next;
         at = e;
     }
     let n = cipher.len();
-    open_piece(st, &cipher[at..n], 0, rate, &mut out[at..n])
+    open_piece(st, &cipher[at..n], false, rate, &mut out[at..n])
 }
 
 // One piece of a ciphertext opened in a local buffer.
-fn peek_piece(a: [u64; 25], p: &[u8], frame: u8, rate: usize) -> [u64; 25]
-    requires offered { Rate 64 rate }
-    requires room { length p.now < rate }
-    requires bit { frame < 2 }
-    ensures { result ≡ duplexing 64 f1600 rate a (xored p.now (bytes 64 a)) frame }
+fn peek_piece(a: [u64; 25], p: &[u8], frame: bool, rate: Rate) -> [u64; 25]
+    requires room { length p.now < rate.bytes }
+    ensures { result ≡ duplexing 64 f1600 rate.bytes a (xored p.now (bytes 64 a)) (bit frame) }
 {
     let mut plain = [0u8; 200];
     let (front, _) = plain.split_at_mut(p.len());
@@ -177,37 +175,34 @@ fn peek_piece(a: [u64; 25], p: &[u8], frame: u8, rate: usize) -> [u64; 25]
 
 // The state after opening a ciphertext, with nothing written: what a tag is checked against before a body is released.
 #[tactic(auto, using(crate::proofs::First::plain_after, crate::proofs::First::plain_only))]
-pub fn peeked(a: [u64; 25], cipher: &[u8], rate: usize) -> [u64; 25]
-    requires { Rate 64 rate }
-    ensures { result ≡ absorbed 64 f1600 rate a 1 0 (opened 64 f1600 rate a cipher.now) }
+pub fn peeked(a: [u64; 25], cipher: &[u8], rate: Rate) -> [u64; 25]
+    ensures { result ≡ absorbed 64 f1600 rate.bytes a 1 0 (opened 64 f1600 rate.bytes a cipher.now) }
 {
-    let most = rate - 1;
+    let most = rate.bytes - 1;
     let mut st = a;
     let mut unopened = cipher;
     while most < unopened.len() {
         let (piece, rest) = unopened.split_at(most);
-        let next = peek_piece(st, piece, 1, rate);
+        let next = peek_piece(st, piece, true, rate);
         st = next;
         unopened = rest;
     }
-    peek_piece(st, unopened, 0, rate)
+    peek_piece(st, unopened, false, rate)
 }
 
 // A duplexing of the empty piece.
 #[tactic(auto, unfolding(crate::specs::Duplex::blank))]
-fn blanked(a: [u64; 25], rate: usize) -> [u64; 25]
-    requires { Rate 64 rate }
-    ensures { result ≡ blank 64 f1600 rate a }
+fn blanked(a: [u64; 25], rate: Rate) -> [u64; 25]
+    ensures { result ≡ blank 64 f1600 rate.bytes a }
 {
-    duplexed(a, b"", 0, rate)
+    duplexed(a, b"", false, rate)
 }
 
 // The whole slice filled with output, rate - 1 bytes a state, and the state that the last of it was read from.
-pub fn drawn_into(a: [u64; 25], rate: usize, out: &mut [u8]) -> [u64; 25]
-    requires { Rate 64 rate }
-    ensures { (result ≡ state_after 64 f1600 rate a (length out.old)) × (out.new ≡ drawn 64 f1600 rate a (length out.old)) }
+pub fn drawn_into(a: [u64; 25], rate: Rate, out: &mut [u8]) -> [u64; 25]
+    ensures { (result ≡ state_after 64 f1600 rate.bytes a (length out.old)) × (out.new ≡ drawn 64 f1600 rate.bytes a (length out.old)) }
 {
-    let most = rate - 1;
+    let most = rate.bytes - 1;
     let mut st = a;
     let mut at = 0; // a place, as in `sealed_into`
     while most < out.len() - at {

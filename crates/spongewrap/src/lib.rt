@@ -9,7 +9,7 @@ ghost use Rattle.refusal.specs.Rows.{first};
 ghost use Rattle.std.specs.Bool.{then_some};
 ghost use Rattle.compare.specs.Same.{same};
 ghost use Rattle.keccak.specs.Rounds.{f1600};
-ghost use Rattle.duplex.specs.Duplex.{Rate, drawn, state_after};
+ghost use Rattle.duplex.specs.Duplex.{drawn, state_after};
 ghost use Rattle.duplex.specs.Strings.{blocks, absorbed, sealed, opened};
 ghost use Rattle.spongewrap.specs.SpongeWrap.{headed};
 ghost use Rattle.refusal.specs.Limits.{most_size};
@@ -17,6 +17,7 @@ ghost use Rattle.spongewrap.specs.Refusals.{most_header, most_body, most_pairs, 
 ghost use Rattle.spongewrap.specs.Sessions.{answer_of, none, fresh, opens, advanced, next, sealing, tag_of, wraps, unwraps, seen};
 ghost use Rattle.spongewrap.specs.Desk.{desk, default_rate, default_tag};
 
+use duplex::Rate;
 use refusal::Refusal;
 
 // What a session is: the state, its settings, and how many pairs and permutation calls brought it here.
@@ -74,22 +75,21 @@ pub fn open(key: &[u8], rate: u16, tag: u16) -> Result<Session, Refused>
     ensures { answer_of result ≡ opens desk key.now rate tag }
 {
     match orders::of_open(key.len(), rate, tag) {
-        Ok(()) => Ok(fresh(key, rate, tag)),
+        Ok(()) => Ok(fresh(key, Rate { bytes: rate as usize }, tag)),
         Err(refusal) => Err(no_session().refused(refusal)),
     }
 }
 
 // The session that an accepted open makes: the key's pieces are absorbed and counted.
-fn fresh(key: &[u8], rate: u16, tag: u16) -> Session
-    requires { Rate 64 rate }
-    ensures { result ≡ fresh desk rate tag key.now }
+fn fresh(key: &[u8], rate: Rate, tag: u16) -> Session
+    ensures { result ≡ fresh desk rate.bytes tag key.now }
 {
     Session {
-        lanes: duplex::absorbed([0u64; 25], key, 1, 0, rate as usize),
-        rate,
+        lanes: duplex::absorbed([0u64; 25], key, true, false, rate),
+        rate: rate.bytes as u16,
         tag,
         pairs: 0,
-        calls: block_count(key.len(), rate as usize),
+        calls: block_count(key.len(), rate.bytes),
     }
 }
 
@@ -135,17 +135,16 @@ fn advanced(s: Session, lanes: [u64; 25], header: usize, body: usize) -> Session
 }
 
 // The state that a header leaves. Its frame bits are those of a key or a body the other way round.
-fn headed(a: [u64; 25], header: &[u8], rate: usize) -> [u64; 25]
-    requires { Rate 64 rate }
-    ensures { result ≡ headed 64 f1600 rate a header.now }
+fn headed(a: [u64; 25], header: &[u8], rate: Rate) -> [u64; 25]
+    ensures { result ≡ headed 64 f1600 rate.bytes a header.now }
 {
-    duplex::absorbed(a, header, 0, 1, rate)
+    duplex::absorbed(a, header, false, true, rate)
 }
 
 // The ciphertext of a body, then a tag of n bytes, from the state that the header left.
-fn seal_pair(a: [u64; 25], body: &[u8], n: usize, rate: usize, out: &mut [u8]) -> [u64; 25]
-    requires { Rate 64 rate × (length body.now + n ≤ length out.old) }
-    ensures { (result ≡ state_after 64 f1600 rate (absorbed 64 f1600 rate a 1 0 body.now) n) × (out.new ≡ (sealed 64 f1600 rate a body.now ++ drawn 64 f1600 rate (absorbed 64 f1600 rate a 1 0 body.now) n) ++ drop (length body.now + n) out.old) }
+fn seal_pair(a: [u64; 25], body: &[u8], n: usize, rate: Rate, out: &mut [u8]) -> [u64; 25]
+    requires { length body.now + n ≤ length out.old }
+    ensures { (result ≡ state_after 64 f1600 rate.bytes (absorbed 64 f1600 rate.bytes a 1 0 body.now) n) × (out.new ≡ (sealed 64 f1600 rate.bytes a body.now ++ drawn 64 f1600 rate.bytes (absorbed 64 f1600 rate.bytes a 1 0 body.now) n) ++ drop (length body.now + n) out.old) }
 {
     let at = body.len();
     let e = at + n;
@@ -158,7 +157,7 @@ fn seal_next(s: Session, header: &[u8], body: &[u8], out: &mut [u8]) -> Session
     requires { Fits desk s (length header.now) (length body.now) × (length body.now + s.tag ≤ length out.old) }
     ensures { (result ≡ next desk s header.now body.now) × (out.new ≡ (sealing desk s header.now body.now ++ tag_of desk s header.now body.now) ++ drop (length body.now + s.tag) out.old) }
 {
-    let rate = s.rate as usize;
+    let rate = Rate { bytes: s.rate as usize };
     let before = s.lanes;
     let head = headed(before, header, rate);
     let lanes = seal_pair(head, body, s.tag as usize, rate, out);
@@ -176,9 +175,9 @@ pub fn wrap(s: Session, header: &[u8], body: &[u8], out: &mut [u8]) -> Result<Se
 }
 
 // The state after the tag of n bytes that the state `a` gives; none where `tag` is another.
-fn check_tag(a: [u64; 25], tag: &[u8], n: usize, rate: usize) -> Option<[u64; 25]>
-    requires { Rate 64 rate × (n ≤ most_size) }
-    ensures { result ≡ then_some (same tag.now (drawn 64 f1600 rate a n)) (state_after 64 f1600 rate a n) }
+fn check_tag(a: [u64; 25], tag: &[u8], n: usize, rate: Rate) -> Option<[u64; 25]>
+    requires { n ≤ most_size }
+    ensures { result ≡ then_some (same tag.now (drawn 64 f1600 rate.bytes a n)) (state_after 64 f1600 rate.bytes a n) }
 {
     let mut due = [0u8; 256];
     let lanes = duplex::drawn_into(a, rate, &mut due[..n]);
@@ -186,9 +185,9 @@ fn check_tag(a: [u64; 25], tag: &[u8], n: usize, rate: usize) -> Option<[u64; 25
 }
 
 // The same for the tag that a ciphertext has, from the state that the header left. Nothing is written.
-fn check_pair(a: [u64; 25], cipher: &[u8], tag: &[u8], n: usize, rate: usize) -> Option<[u64; 25]>
-    requires { Rate 64 rate × (n ≤ most_size) }
-    ensures { result ≡ then_some (same tag.now (drawn 64 f1600 rate (absorbed 64 f1600 rate a 1 0 (opened 64 f1600 rate a cipher.now)) n)) (state_after 64 f1600 rate (absorbed 64 f1600 rate a 1 0 (opened 64 f1600 rate a cipher.now)) n) }
+fn check_pair(a: [u64; 25], cipher: &[u8], tag: &[u8], n: usize, rate: Rate) -> Option<[u64; 25]>
+    requires { n ≤ most_size }
+    ensures { result ≡ then_some (same tag.now (drawn 64 f1600 rate.bytes (absorbed 64 f1600 rate.bytes a 1 0 (opened 64 f1600 rate.bytes a cipher.now)) n)) (state_after 64 f1600 rate.bytes (absorbed 64 f1600 rate.bytes a 1 0 (opened 64 f1600 rate.bytes a cipher.now)) n) }
 {
     check_tag(duplex::peeked(a, cipher, rate), tag, n, rate)
 }
@@ -204,7 +203,7 @@ fn open_pair(
     requires { (first (ready_rows desk s (length header.now) (length cipher.now) (length out.old)) ≡ 0) × Fits desk s (length header.now) (length cipher.now) × (length cipher.now ≤ length out.old) }
     ensures { seen (answer_of result) out.new ≡ unwraps desk s header.now cipher.now tag.now out.old }
 {
-    let rate = s.rate as usize;
+    let rate = Rate { bytes: s.rate as usize };
     let before = s.lanes;
     let head = headed(before, header, rate);
     match check_pair(head, cipher, tag, s.tag as usize, rate) {

@@ -10,7 +10,7 @@ loop-out-init c = search (rules, laid_none_whole)
 
 pub loop-out-preserved : goal.loop-out-preserved
 loop-out-preserved c = (
-  grind (arith, state_after_more 64 f1600 c.args.rate c.loop-out.st c.requires (length c.args.out.now - c.loop-out.at)),
+  grind (arith, state_after_more 64 f1600 c.args.rate.bytes c.loop-out.st c.args.rate.fits (length c.args.out.now - c.loop-out.at)),
   laid_more _ _ _ _ _ c.loop-out.invariant.1 _ _ _ (grind (arith, drawn_more)) (grind arith) (omega arith),
 )
 

@@ -11,7 +11,7 @@ use Rattle.duplex.proofs.opened_into.Given as goal
 
 abbrev pub invariant-loop-at : goal.invariant-loop-at
 invariant-loop-at l =
-    (absorbed 64 f1600 l.rate l.st 1 0 (opened 64 f1600 l.rate l.st (drop l.at l.cipher)) ≡ absorbed 64 f1600 l.rate l.fn.a 1 0 (opened 64 f1600 l.rate l.fn.a l.cipher)) × Laid (length l.cipher) (opened 64 f1600 l.rate l.fn.a l.cipher ++ drop (length l.cipher) l.fn.out) l.at (opened 64 f1600 l.rate l.st (drop l.at l.cipher)) l.out
+    (absorbed 64 f1600 l.rate.bytes l.st 1 0 (opened 64 f1600 l.rate.bytes l.st (drop l.at l.cipher)) ≡ absorbed 64 f1600 l.rate.bytes l.fn.a 1 0 (opened 64 f1600 l.rate.bytes l.fn.a l.cipher)) × Laid (length l.cipher) (opened 64 f1600 l.rate.bytes l.fn.a l.cipher ++ drop (length l.cipher) l.fn.out) l.at (opened 64 f1600 l.rate.bytes l.st (drop l.at l.cipher)) l.out
 
 abbrev pub decreases-loop-at : goal.decreases-loop-at
 decreases-loop-at l = length l.cipher - l.at

@@ -7,7 +7,7 @@ use Rattle.duplex.proofs.peeked.Given as goal
 
 abbrev pub invariant-loop-unopened : goal.invariant-loop-unopened
 invariant-loop-unopened l =
-    absorbed 64 f1600 l.rate l.st 1 0 (opened 64 f1600 l.rate l.st l.unopened) ≡ absorbed 64 f1600 l.rate l.fn.a 1 0 (opened 64 f1600 l.rate l.fn.a l.cipher)
+    absorbed 64 f1600 l.rate.bytes l.st 1 0 (opened 64 f1600 l.rate.bytes l.st l.unopened) ≡ absorbed 64 f1600 l.rate.bytes l.fn.a 1 0 (opened 64 f1600 l.rate.bytes l.fn.a l.cipher)
 
 abbrev pub decreases-loop-unopened : goal.decreases-loop-unopened
 decreases-loop-unopened l = length l.unopened

@@ -13,11 +13,11 @@ use Rattle.duplex.proofs.sealed_into.Goals as goal
 pub loop-at-preserved : goal.loop-at-preserved
 loop-at-preserved c =
     let left = drop c.loop-at.at c.args.body.now in
-    let long : c.args.rate - 1 < length (drop c.loop-at.at c.args.body.now) = omega (arith, length-drop c.loop-at.at c.args.body.now) in
-    let as_many : c.loop-at.at + (c.args.rate - 1) - c.loop-at.at ≡ c.args.rate - 1 = omega arith in
-    let rest = drop-drop (c.args.rate - 1) c.loop-at.at c.args.body.now in (
-      cc (absorbed_after 64 f1600 c.args.rate c.loop-at.st c.requires.0.room 1 0 left long),
-      laid_more _ _ _ _ _ c.loop-at.invariant.1 _ _ _ (cc (sealed_after 64 f1600 c.args.rate c.loop-at.st c.requires.0.room left long)) (grind arith) (grind arith),
+    let long : c.args.rate.bytes - 1 < length (drop c.loop-at.at c.args.body.now) = omega (arith, length-drop c.loop-at.at c.args.body.now) in
+    let as_many : c.loop-at.at + (c.args.rate.bytes - 1) - c.loop-at.at ≡ c.args.rate.bytes - 1 = omega arith in
+    let rest = drop-drop (c.args.rate.bytes - 1) c.loop-at.at c.args.body.now in (
+      cc (absorbed_after 64 f1600 c.args.rate.bytes c.loop-at.st c.args.rate.fits.room 1 0 left long),
+      laid_more _ _ _ _ _ c.loop-at.invariant.1 _ _ _ (cc (sealed_after 64 f1600 c.args.rate.bytes c.loop-at.st c.args.rate.fits.room left long)) (grind arith) (grind arith),
     )
 
 pub returns : goal.returns

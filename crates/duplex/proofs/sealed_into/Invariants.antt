@@ -10,7 +10,7 @@ use Rattle.duplex.proofs.sealed_into.Given as goal
 
 abbrev pub invariant-loop-at : goal.invariant-loop-at
 invariant-loop-at l =
-    (absorbed 64 f1600 l.rate l.st 1 0 (drop l.at l.body) ≡ absorbed 64 f1600 l.rate l.fn.a 1 0 l.body) × Laid (length l.body) (sealed 64 f1600 l.rate l.fn.a l.body ++ drop (length l.body) l.fn.out) l.at (sealed 64 f1600 l.rate l.st (drop l.at l.body)) l.out
+    (absorbed 64 f1600 l.rate.bytes l.st 1 0 (drop l.at l.body) ≡ absorbed 64 f1600 l.rate.bytes l.fn.a 1 0 l.body) × Laid (length l.body) (sealed 64 f1600 l.rate.bytes l.fn.a l.body ++ drop (length l.body) l.fn.out) l.at (sealed 64 f1600 l.rate.bytes l.st (drop l.at l.body)) l.out
 
 abbrev pub decreases-loop-at : goal.decreases-loop-at
 decreases-loop-at l = length l.body - l.at

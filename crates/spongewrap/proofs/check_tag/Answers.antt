@@ -16,16 +16,16 @@ slice_bounds-drawn_into-end c = sym (length-take-le _ _ (search rules))
 pub slice_bounds-due-end-2 : goal.slice_bounds-due-end-2
 slice_bounds-due-end-2 c =
     let a = c.args in
-    front_fits 64 f1600 a.rate a.n a.a (replicate {A = ℕ} 256 0) _ (search rules) (search rules) c.drawn_into-lanes.ensures.1
+    front_fits 64 f1600 a.rate.bytes a.n a.a (replicate {A = ℕ} 256 0) _ (search rules) (search rules) c.drawn_into-lanes.ensures.1
 
 pub slice_bounds-is_same-end : goal.slice_bounds-is_same-end
 slice_bounds-is_same-end c =
     let a = c.args in
-    front_part 64 f1600 a.rate a.n a.a (replicate {A = ℕ} 256 0) _ (search rules) (search rules) c.drawn_into-lanes.ensures.1
+    front_part 64 f1600 a.rate.bytes a.n a.a (replicate {A = ℕ} 256 0) _ (search rules) (search rules) c.drawn_into-lanes.ensures.1
 
 pub returns : goal.returns
 returns c =
     let a = c.args in
-    let e = c.is_same.ensures ∙ ap (same a.tag.now) (front_is 64 f1600 a.rate a.n a.a (replicate {A = ℕ} 256 0) _ (search rules) (search rules) c.drawn_into-lanes.ensures.1) in
-    let l = c.drawn_into-lanes.ensures.0 ∙ ap (state_after 64 f1600 a.rate a.a) (length-take-le a.n (replicate {A = ℕ} 256 0) (search rules)) in
+    let e = c.is_same.ensures ∙ ap (same a.tag.now) (front_is 64 f1600 a.rate.bytes a.n a.a (replicate {A = ℕ} 256 0) _ (search rules) (search rules) c.drawn_into-lanes.ensures.1) in
+    let l = c.drawn_into-lanes.ensures.0 ∙ ap (state_after 64 f1600 a.rate.bytes a.a) (length-take-le a.n (replicate {A = ℕ} 256 0) (search rules)) in
     c.then_some.ensures ∙ rw (e, l)

@@ -6,8 +6,8 @@ use Rattle.spongewrap.proofs.Passed.{open_fits}
 use Rattle.spongewrap.proofs.Settle.{opens_refused, opens_taken}
 use Rattle.spongewrap.proofs.open.Goals as goal
 
-pub fresh-requires : goal.fresh-requires
-fresh-requires c = (open_fits desk _ _ _ (sym c.in-Ok.ensures)).rates
+pub invariant_of-fresh : goal.invariant_of-fresh
+invariant_of-fresh c = record { fits = (open_fits desk _ _ _ (sym c.in-Ok.ensures)).rates }
 
 pub returns-in-Ok : goal.returns-in-Ok
 returns-in-Ok c = opens_taken desk _ _ _ _ _ c.in-Ok.ensures refl c.fresh.ensures
