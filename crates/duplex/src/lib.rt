@@ -6,15 +6,15 @@ ghost use Rattle.std.specs.Prelude.{◌≡◌, ◌++◌, ◌<◌, ◌≤◌, len
 ghost use Rattle.keccak.specs.Rounds.{f1600};
 ghost use Rattle.sponge.specs.Bytes.{bytes};
 ghost use Rattle.sponge.specs.Sponge.{zeros};
-ghost use Rattle.duplex.specs.Duplex.{Rate, duplexing, blank, drawn, state_after};
+ghost use Rattle.duplex.specs.Duplex.{Rate as GoodRate, duplexing, blank, drawn, state_after};
 ghost use Rattle.duplex.specs.Strings.{xored, absorbed, sealed, opened};
 ghost use Rattle.duplex.specs.Object.{bit, duplex_refused, outcome, seen, duplexes};
 
-// How many bytes of the state a block covers: room for a byte and its frame, in whole lanes.
+// How many bytes of the state a block covers: room for a byte and its frame, in whole lanes. Whoever makes one shows that.
 #[derive(Clone, Copy)]
 pub struct Rate {
     pub bytes: usize,
-    ghost fits: { Rate 64 bytes },
+    ghost fits: { GoodRate 64 bytes },
 }
 
 // A duplex object: the state, and how many bytes of it a block covers.
@@ -48,11 +48,11 @@ impl Duplex {
     pub fn duplexing(self, piece: &[u8], frame: bool, out: &mut [u8]) -> Result<Duplex, Refused>
         ensures { seen (outcome result) out.new ≡ duplexes self piece.now frame out.old }
     {
-        let rate = usize::from(self.rate);
-        if is_refused(rate, piece.len(), out.len()) {
+        let bytes = usize::from(self.rate);
+        if is_refused(bytes, piece.len(), out.len()) {
             return Err(Refused { duplex: self });
         }
-        let lanes = duplexed(self.lanes, piece, frame, Rate { bytes: rate });
+        let lanes = duplexed(self.lanes, piece, frame, Rate { bytes });
         sponge::put_bytes(lanes, out);
         Ok(Duplex { lanes, ..self })
     }

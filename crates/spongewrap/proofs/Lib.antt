@@ -1,5 +1,4 @@
 pub mod Passed
-pub mod Steps
 pub mod Settle
 pub mod Theorems
 pub mod Outcomes

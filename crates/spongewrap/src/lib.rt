@@ -75,7 +75,10 @@ pub fn open(key: &[u8], rate: u16, tag: u16) -> Result<Session, Refused>
     ensures { answer_of result ≡ opens desk key.now rate tag }
 {
     match orders::of_open(key.len(), rate, tag) {
-        Ok(()) => Ok(fresh(key, Rate { bytes: rate as usize }, tag)),
+        Ok(()) => {
+            let bytes = rate as usize;
+            Ok(fresh(key, Rate { bytes }, tag))
+        }
         Err(refusal) => Err(no_session().refused(refusal)),
     }
 }
@@ -146,10 +149,10 @@ fn seal_pair(a: [u64; 25], body: &[u8], n: usize, rate: Rate, out: &mut [u8]) ->
     requires { length body.now + n ≤ length out.old }
     ensures { (result ≡ state_after 64 f1600 rate.bytes (absorbed 64 f1600 rate.bytes a 1 0 body.now) n) × (out.new ≡ (sealed 64 f1600 rate.bytes a body.now ++ drawn 64 f1600 rate.bytes (absorbed 64 f1600 rate.bytes a 1 0 body.now) n) ++ drop (length body.now + n) out.old) }
 {
-    let at = body.len();
-    let e = at + n;
-    let b = duplex::sealed_into(a, body, rate, out);
-    duplex::drawn_into(b, rate, &mut out[at..e])
+    let (cipher, behind) = out.split_at_mut(body.len());
+    let (tag, _) = behind.split_at_mut(n);
+    let b = duplex::sealed_into(a, body, rate, cipher);
+    duplex::drawn_into(b, rate, tag)
 }
 
 // A pair that fits sealed: the session after it.
@@ -157,7 +160,8 @@ fn seal_next(s: Session, header: &[u8], body: &[u8], out: &mut [u8]) -> Session
     requires { Fits desk s (length header.now) (length body.now) × (length body.now + s.tag ≤ length out.old) }
     ensures { (result ≡ next desk s header.now body.now) × (out.new ≡ (sealing desk s header.now body.now ++ tag_of desk s header.now body.now) ++ drop (length body.now + s.tag) out.old) }
 {
-    let rate = Rate { bytes: s.rate as usize };
+    let bytes = s.rate as usize;
+    let rate = Rate { bytes };
     let before = s.lanes;
     let head = headed(before, header, rate);
     let lanes = seal_pair(head, body, s.tag as usize, rate, out);
@@ -179,9 +183,10 @@ fn check_tag(a: [u64; 25], tag: &[u8], n: usize, rate: Rate) -> Option<[u64; 25]
     requires { n ≤ most_size }
     ensures { result ≡ then_some (same tag.now (drawn 64 f1600 rate.bytes a n)) (state_after 64 f1600 rate.bytes a n) }
 {
-    let mut due = [0u8; 256];
-    let lanes = duplex::drawn_into(a, rate, &mut due[..n]);
-    compare::is_same(tag, &due[..n]).then_some(lanes)
+    let mut buffer = [0u8; 256];
+    let (due, _) = buffer.split_at_mut(n);
+    let lanes = duplex::drawn_into(a, rate, due);
+    compare::is_same(tag, due).then_some(lanes)
 }
 
 // The same for the tag that a ciphertext has, from the state that the header left. Nothing is written.
@@ -203,7 +208,8 @@ fn open_pair(
     requires { (first (ready_rows desk s (length header.now) (length cipher.now) (length out.old)) ≡ 0) × Fits desk s (length header.now) (length cipher.now) × (length cipher.now ≤ length out.old) }
     ensures { seen (answer_of result) out.new ≡ unwraps desk s header.now cipher.now tag.now out.old }
 {
-    let rate = Rate { bytes: s.rate as usize };
+    let bytes = s.rate as usize;
+    let rate = Rate { bytes };
     let before = s.lanes;
     let head = headed(before, header, rate);
     match check_pair(head, cipher, tag, s.tag as usize, rate) {
