@@ -108,7 +108,7 @@ fn no_session() -> Session
     }
 }
 
-// How many blocks n bytes take.
+// How many blocks n bytes take. The rate stays a number: a `Rate` would ask more of callers than room for a byte.
 pub fn block_count(n: usize, rate: usize) -> u64
     requires { 1 < rate }
     ensures { (result ≡ blocks rate n) × (result ≤ n + 1) }
