@@ -8,7 +8,7 @@ use crate::{Entry, NoEntry};
 use fields::Number;
 use spongewrap::orders;
 
-// The version, and the settings of its session.
+// The version, and the settings of its session, which another default of sessions would not move.
 pub const VERSION: u8 = 1;
 
 pub const RATE: u16 = 136;

@@ -4,7 +4,7 @@
 ghost use Rattle.std.specs.Prelude.{◌≡◌, length};
 ghost use Rattle.compare.specs.Same.{same};
 
-// Whether two strings are the same. Strings of one length are read to their ends, wherever they differ.
+// Whether two strings are the same. Strings of one length are read to their ends, wherever they differ, which `==` does not promise.
 pub fn is_same(x: &[u8], y: &[u8]) -> bool
     ensures { result ≡ same x.now y.now }
 {

@@ -1,4 +1,5 @@
-// What the desks' C program calls. A slice passes as a pointer and a length; include/feefledown.h declares them.
+// What the desks' C program calls. A slice passes as a pointer and a length, and an answer as a refusal's number, for C has no Result;
+// include/feefledown.h declares them.
 #![tactic(auto)]
 
 ghost use Rattle.std.specs.Prelude.{◌≡◌, []};

@@ -85,7 +85,8 @@ pub fn absorbed(a: [u64; 25], s: &[u8], mid: bool, last: bool, rate: Rate) -> [u
     let mut rest = s;
     while most < rest.len() {
         let (piece, after) = rest.split_at(most);
-        let next = duplexed(st, piece, mid, rate); // the proof rules know no call that is laid straight into an array
+        // By name: laid straight over the array that it takes, the call gets no proof here.
+        let next = duplexed(st, piece, mid, rate);
         st = next;
         rest = after;
     }
@@ -122,9 +123,10 @@ pub fn sealed_into(a: [u64; 25], body: &[u8], rate: Rate, out: &mut [u8]) -> [u6
 {
     let most = rate.bytes - 1;
     let mut st = a;
-    let mut at = 0; // a place, for a loop that went down `out` would leave no more known of it than its length
+    let mut at = 0; // by place: after a loop that lends `out` on, the proof knows only its length
     while most < body.len() - at {
         let e = at + most;
+        // By name: laid straight over the array that it takes, the call gets no proof here.
         let next = seal_piece(st, &body[at..e], true, rate, &mut out[at..e]);
         st = next;
         at = e;
@@ -155,6 +157,7 @@ pub fn opened_into(a: [u64; 25], cipher: &[u8], rate: Rate, out: &mut [u8]) -> [
     let mut at = 0; // a place, as in `sealed_into`
     while most < cipher.len() - at {
         let e = at + most;
+        // By name: laid straight over the array that it takes, the call gets no proof here.
         let next = open_piece(st, &cipher[at..e], true, rate, &mut out[at..e]);
         st = next;
         at = e;
@@ -183,6 +186,7 @@ pub fn peeked(a: [u64; 25], cipher: &[u8], rate: Rate) -> [u64; 25]
     let mut unopened = cipher;
     while most < unopened.len() {
         let (piece, rest) = unopened.split_at(most);
+        // By name: laid straight over the array that it takes, the call gets no proof here.
         let next = peek_piece(st, piece, true, rate);
         st = next;
         unopened = rest;
@@ -207,6 +211,7 @@ pub fn drawn_into(a: [u64; 25], rate: Rate, out: &mut [u8]) -> [u64; 25]
     let mut at = 0; // a place, as in `sealed_into`
     while most < out.len() - at {
         sponge::put_bytes(st, &mut out[at..at + most]);
+        // By name: laid straight over the array that it takes, the call gets no proof here.
         let next = blanked(st, rate);
         st = next;
         at += most;

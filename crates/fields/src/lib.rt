@@ -5,7 +5,7 @@ ghost use Rattle.std.specs.Prelude.{◌≡◌, ℕ, ◌+◌, ◌≤◌, length};
 ghost use Rattle.std.proofs.lemmas.List.Edits.{sets};
 ghost use Rattle.fields.specs.Numbers.{number_at, bytes_of};
 
-// A number of so many bytes, which stand in a buffer with the highest first.
+// A number of so many bytes, which stand in a buffer with the highest first. An `unwrap` below takes an array from a slice of its own length, as is proved.
 pub trait Number: Copy {
     ghost width: { ℕ };
 

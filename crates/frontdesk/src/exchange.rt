@@ -16,7 +16,7 @@ fn open(rt: &impl Print, s: &mut Session, header: &[u8], sealed: &[u8], n: usize
     let pair = s.pairs;
     let end = n + bundle::TAG;
     let done = running::unwrap_in_place(s, header, &sealed[..n], &sealed[n..end], &mut out);
-    lines::print_pair(rt, pair, header, n, s.calls);
+    lines::print_pair(rt, pair.into(), header, n, s.calls);
     lines::print_outcome(rt, done.err(), &out, n);
 }
 
@@ -28,7 +28,7 @@ fn pass(rt: &impl Print, from: &mut Session, to: &mut Session, header: &[u8], bo
     let mut sealed = [DOT; ROOM];
     let pair = from.pairs;
     let done = running::wrap_in_place(from, header, body, &mut sealed);
-    lines::print_pair(rt, pair, header, body.len(), from.calls);
+    lines::print_pair(rt, pair.into(), header, body.len(), from.calls);
     lines::print_sealed(rt, done.err());
     open(rt, to, header, &sealed, body.len());
 }

@@ -9,7 +9,7 @@ const SHOWN: usize = 32;
 
 const COLUMNS: &str = "  entry  place  header               body  calls";
 
-// A write that fails is passed over.
+// A write that fails is passed over. The lister has two such lines for whole lines; a crate for both would be no plainer.
 fn print(rt: &impl Print, text: impl Display + Drop) {
     let _ = rt.print(text);
 }
@@ -38,7 +38,7 @@ fn print_lengths(rt: &impl Print, header: &[u8], body: usize, calls: u64) {
 // An entry's line, up to what came of it.
 pub fn print_entry(
     rt: &impl Print,
-    entry: u32,
+    entry: u64,
     place: usize,
     header: &[u8],
     body: usize,
@@ -49,7 +49,7 @@ pub fn print_entry(
 }
 
 // The same of a pair outside a bundle.
-pub fn print_pair(rt: &impl Print, pair: u32, header: &[u8], body: usize, calls: u64) {
+pub fn print_pair(rt: &impl Print, pair: u64, header: &[u8], body: usize, calls: u64) {
     print(rt, format_args!("{pair:>7}"));
     print_lengths(rt, header, body, calls);
 }
@@ -66,7 +66,7 @@ pub fn print_sealed(rt: &impl Print, refusal: Option<Refusal>) {
 pub fn print_outcome(rt: &impl Print, refusal: Option<Refusal>, out: &[u8], body: usize) {
     match refusal {
         None => print_body(rt, out, body),
-        Some(refusal) => print_refused(rt, refusal, compare::is_same(out, &[DOT; ROOM])),
+        Some(refusal) => print_refused(rt, refusal, out == [DOT; ROOM].as_slice()),
     }
 }
 

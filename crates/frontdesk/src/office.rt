@@ -38,7 +38,7 @@ fn show(
     header: &[u8],
     body: usize,
 ) {
-    lines::print_entry(rt, entry, place, header, body, left(answer).calls);
+    lines::print_entry(rt, entry.into(), place, header, body, left(answer).calls);
     lines::print_sealed(rt, answer.err().map(|refused| refused.fault.refusal));
 }
 

@@ -162,7 +162,7 @@ pub fn permuted(a: [u64; 25]) -> [u64; 25]
 {
     let mut b = a;
     for constant in tables::CONSTANTS {
-        // By a name of its own: the borrow checker lays no call's result over an array.
+        // By name: laid straight over the array that it takes, the call gets no proof here.
         let next = one_round(b, constant);
         b = next;
     }

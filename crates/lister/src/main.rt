@@ -9,7 +9,7 @@ use std::fmt::Display;
 // The most bytes that are listed.
 const MOST: usize = 65_536;
 
-// A write that fails is passed over.
+// A write that fails is passed over. The front desk has two such lines for parts of lines; a crate for both would be no plainer.
 fn print(rt: &impl Print, line: impl Display + Drop) {
     let _ = println!(rt; "{line}");
 }
@@ -29,6 +29,7 @@ fn print_entries(rt: &impl Print, bytes: &[u8], entries: usize) {
     let mut place = bundle::FIRST;
     let mut k = 0usize;
     let mut sum = 0;
+    // By places and not by an index: each entry says where the next one stands. An iterator would hand on place and entry, and be no plainer.
     while place < bytes.len() {
         let Ok(entry) = bundle::entry_at(bytes, place) else {
             return;

@@ -31,12 +31,12 @@ pub extern "C" fn probe_permute_times(state: &mut [u8], times: u64) -> u8
     0
 }
 
-// In two steps a turn: the check has no rule yet for `a = permuted(a)`, which lays the array that a call answers over a variable.
 #[tactic(auto, unfolding(sponge::specs::Sponge::iterate))]
 fn permuted_times(mut a: [u64; 25], times: u64) -> [u64; 25]
     ensures { result ≡ iterate f1600 a times }
 {
     for _turn in 0..times {
+        // By name: laid straight over the array that it takes, the call gets no proof here.
         let next = keccak::permuted(a);
         a = next;
     }

@@ -1,4 +1,4 @@
-// Exports for tests and benchmarks, and nothing else: what the desks call is in `desk`.
+// Exports for tests and benchmarks, and nothing else: what the desks call is in `desk`. They answer numbers, as C does.
 #![tactic(auto)]
 
 mod hashing; // hashing.rt: the permutation and the hashes

@@ -1,4 +1,5 @@
-// The running session, advanced where it stands: thin functions over the calls that take a session and hand one back.
+// The running session, advanced where it stands: thin functions over the calls that take a session and hand one back, two as document 01
+// asks for them.
 #![tactic(auto)]
 
 ghost use Rattle.std.specs.Prelude.{◌≡◌};

@@ -47,7 +47,7 @@ impl From<Refused> for Refusal {
 }
 
 impl Session {
-    // What an open that states no settings takes.
+    // What an open that states no settings takes. Bundles and desks name their settings themselves, so that another default moves neither.
     pub const RATE: u16 = 136;
 
     pub const TAG: u16 = 16;
