@@ -15,21 +15,21 @@ pub struct Absorber<const RATE: usize> {
     offset: usize,
 }
 
-// Clauses see lanes and offset. Of every absorber the rate is in whole lanes, and the next block has room for a byte.
+// Clauses see lanes and offset. Of every absorber whose rate is in whole lanes, the next block has room for a byte.
 impl<const RATE: usize> Model for Absorber<RATE> {
     ghost Value = { Absorbing };
 
     ghost view = { λ c. record { lanes = c.lanes; offset = c.offset } };
 
-    ghost invariant = { λ c. Ready 64 RATE c.offset };
+    ghost invariant = { λ c. Ready 64 RATE 0 → Ready 64 RATE c.offset };
 
     ghost inverse = { λ v. record { lanes = v.lanes; offset = v.offset } };
 }
 
+// The clauses `Ready 64 RATE 0` stand because the rate is a const parameter, and `fresh` asks nothing of it.
 impl<const RATE: usize> Absorber<RATE> {
     // A sponge that has absorbed nothing.
     pub fn fresh() -> Self
-        requires { Ready 64 RATE 0 }
         ensures { result ≡ fresh }
     {
         Absorber {
@@ -40,6 +40,7 @@ impl<const RATE: usize> Absorber<RATE> {
 
     // Bytes absorbed one by one.
     fn absorbed_bytes(&self, s: &[u8]) -> Self
+        requires { Ready 64 RATE 0 }
         ensures { Absorbed 64 f1600 RATE self.now s.now result }
     {
         let mut lanes = self.lanes;
@@ -74,6 +75,7 @@ impl<const RATE: usize> Absorber<RATE> {
 
     // A string absorbed: byte by byte up to the block's edge, and from there on.
     pub fn absorbed(&self, s: &[u8]) -> Self
+        requires { Ready 64 RATE 0 }
         ensures { Absorbed 64 f1600 RATE self.now s.now result }
     {
         let left = (RATE - self.offset) % RATE;
@@ -87,6 +89,7 @@ impl<const RATE: usize> Absorber<RATE> {
     // Zeros absorbed up to the next block. They change no byte, so that only a permutation is left to do.
     #[tactic(auto, using(crate::proofs::Parts::filled_none))]
     pub fn filled(&self) -> Self
+        requires { Ready 64 RATE 0 }
         ensures { Absorbed 64 f1600 RATE self.now (replicate ((RATE - self.now.offset) % RATE) 0) result × (result.offset ≡ 0) }
     {
         if self.offset == 0 {
@@ -100,7 +103,7 @@ impl<const RATE: usize> Absorber<RATE> {
 
     // The message's end: the suffix byte and the padding absorbed. The output is squeezed from these lanes.
     pub fn ended(&self, suffix: u8) -> [u64; 25]
-        requires { suffix < 128 }
+        requires { Ready 64 RATE 0 × (suffix < 128) }
         ensures { result ≡ ended 64 f1600 RATE self.now suffix }
     {
         let none = [0; 200];

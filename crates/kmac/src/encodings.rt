@@ -20,7 +20,7 @@ fn byte_count(x: u64) -> usize
 
 // The last n bytes of x.
 fn absorbed_number<const RATE: usize>(c: &Absorber<RATE>, x: u64, n: usize) -> Absorber<RATE>
-    requires { n ≤ 8 }
+    requires { Ready 64 RATE 0 × (n ≤ 8) }
     ensures { Absorbed 64 f1600 RATE c.now (bytes_of n x) result }
 {
     c.absorbed(&x.to_be_bytes()[8 - n..])
@@ -28,7 +28,7 @@ fn absorbed_number<const RATE: usize>(c: &Absorber<RATE>, x: u64, n: usize) -> A
 
 // A count of bytes, in a byte.
 fn absorbed_count<const RATE: usize>(c: &Absorber<RATE>, n: usize) -> Absorber<RATE>
-    requires { n ≤ 8 }
+    requires { Ready 64 RATE 0 × (n ≤ 8) }
     ensures { Absorbed 64 f1600 RATE c.now (n ∷ []) result }
 {
     c.absorbed(&[n as u8])
@@ -36,6 +36,7 @@ fn absorbed_count<const RATE: usize>(c: &Absorber<RATE>, n: usize) -> Absorber<R
 
 // left_encode: the count, and then the bytes of x.
 fn left_encoded<const RATE: usize>(c: &Absorber<RATE>, x: u64) -> Absorber<RATE>
+    requires { Ready 64 RATE 0 }
     ensures { Absorbed 64 f1600 RATE c.now (left_encode x) result }
 {
     let n = byte_count(x);
@@ -45,6 +46,7 @@ fn left_encoded<const RATE: usize>(c: &Absorber<RATE>, x: u64) -> Absorber<RATE>
 
 // right_encode: the bytes of x, and then their count.
 pub fn right_encoded<const RATE: usize>(c: &Absorber<RATE>, x: u64) -> Absorber<RATE>
+    requires { Ready 64 RATE 0 }
     ensures { Absorbed 64 f1600 RATE c.now (right_encode x) result }
 {
     let n = byte_count(x);
@@ -54,7 +56,7 @@ pub fn right_encoded<const RATE: usize>(c: &Absorber<RATE>, x: u64) -> Absorber<
 
 // encode_string: a string behind its length in bits.
 fn string_encoded<const RATE: usize>(c: &Absorber<RATE>, s: &[u8]) -> Absorber<RATE>
-    requires { length s.now ≤ most_string }
+    requires { Ready 64 RATE 0 × (length s.now ≤ most_string) }
     ensures { Absorbed 64 f1600 RATE c.now (encode_string s.now) result }
 {
     let bits = 8 * (s.len() as u64);
@@ -75,7 +77,7 @@ pub fn names_padded<const RATE: usize>(name: &[u8], customisation: &[u8]) -> Abs
 
 // bytepad of a key, from a block's edge on.
 pub fn key_padded<const RATE: usize>(c: &Absorber<RATE>, key: &[u8]) -> Absorber<RATE>
-    requires { (c.now.offset ≡ 0) × (length key.now ≤ most_string) }
+    requires { Ready 64 RATE 0 × (c.now.offset ≡ 0) × (length key.now ≤ most_string) }
     ensures { Absorbed 64 f1600 RATE c.now (bytepad (encode_string key.now) RATE) result }
 {
     let begun = left_encoded(c, RATE as u64);

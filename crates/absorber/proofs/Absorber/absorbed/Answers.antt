@@ -9,5 +9,5 @@ returns g c =
     let v = c.self in
     let u = c.whole in
     let k = c.in-Some.ensures.cases in
-    rw (← v.view_is) (over_edge 64 f1600 _ (at v.inside.lanes v.inside.offset) c.args.s.now _ _ _ (at u.inside.lanes u.inside.offset) _ v.invariant.inside refl k.3 k.1 k.2
+    rw (← v.view_is) (over_edge 64 f1600 _ (at v.inside.lanes v.inside.offset) c.args.s.now _ _ _ (at u.inside.lanes u.inside.offset) _ (v.invariant c.requires).inside refl k.3 k.1 k.2
     (rw (v.view_is, u.view_is) c.absorbed_bytes-whole.ensures) c.absorbed_blocks.ensures)

@@ -1,5 +1,4 @@
 -- The bytes that are in already are zeros of the last piece.
-use borrow.Author.Rules.{rules}
 use mathlib.Core.Path.{◌≡◌, ap, ◌∙◌}
 use mathlib.Core.List.{List}
 use Prim.Native.Nat.{ℕ}
@@ -16,6 +15,7 @@ pub returns : goal.returns
 returns g c =
     let v = c.self.inside in
     let n = v.offset in
+    let r = c.self.invariant c.requires.0 in
     let z : take {A = ℕ} n (replicate 200 0) ≡ replicate n 0 = take-replicate n 200 0 (omega arith) in
-    rw (← c.self.view_is) (ended_by 64 f1600 _ (omega arith) c.self.invariant.most (at v.lanes n) _ _ (search rules) c.requires
+    rw (← c.self.view_is) (ended_by 64 f1600 _ (omega arith) r.most (at v.lanes n) _ _ r.inside c.requires.1
     (c.absorbed_piece.ensures ∙ ap (λ (p : List ℕ). absorb_block 64 f1600 v.lanes (padded g.row.RATE c.args.suffix p)) z))

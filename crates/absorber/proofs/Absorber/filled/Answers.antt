@@ -8,4 +8,5 @@ use Rattle.absorber.proofs.Absorber.filled.Goals as goal
 pub returns : goal.returns
 returns g c =
     let v = c.self.inside in
-    (rw (← c.self.view_is) (filled_more 64 f1600 _ (omega arith) c.self.invariant.most (at v.lanes v.offset) _ (search rules) (λ e. omega arith) (search rules) c.permuted.ensures), search rules)
+    let r = c.self.invariant c.requires in
+    (rw (← c.self.view_is) (filled_more 64 f1600 _ (omega arith) r.most (at v.lanes v.offset) _ (search rules) (λ e. omega arith) r.inside c.permuted.ensures), search rules)
