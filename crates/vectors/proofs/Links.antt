@@ -1,9 +1,8 @@
 -- The steps of a Monte Carlo chain.
 use mathlib.Core.Path.{◌≡◌, ap, ◌∙◌}
 use mathlib.Core.List.{List, ◌++◌}
-use Prim.Native.Nat.{ℕ, ◌+◌, ◌≤◌}
+use Prim.Native.Nat.{ℕ, ◌+◌}
 use native.Mathlib.Numerals.{add-one}
-use native.Mathlib.Omega.{arith}
 use lib.ListN.{take, drop, replicate}
 use Rattle.vectors.specs.declared.hashes.Hash.{Hash}
 use Rattle.vectors.specs.declared.chains.Link.{Link}
@@ -22,6 +21,3 @@ module _ (h : Hash) (least most : ℕ) where
   pub links_more : (i : ℕ) (k last next : Link) → last ≡ links h least most i k → next ≡ linked h least most last → next ≡ links h least most (i + 1) k
   unfolding links
   links_more i k last next p q = rw add-one (q ∙ ap (linked h least most) p)
-
-  pub links_all : (i : ℕ) (k last : Link) → last ≡ links h least most i k → i ≤ 1000 → 1000 ≤ i → last ≡ links h least most 1000 k
-  links_all i k last p q r = p ∙ ap (λ (n : ℕ). links h least most n k) (omega arith)

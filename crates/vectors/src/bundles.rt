@@ -8,7 +8,7 @@ use crate::entries::Made;
 use crate::text::{ROOM, Text};
 
 // A file as far as it is read: the header that came last, room for another field, and the last bundle, made in `bytes`. There is no
-// bundle before the first key, and none once something of it differed.
+// bundle before the first key, none by a key that the open refuses, and none after a body that is too long.
 #[derive(Drop)]
 pub struct Bundles {
     header: Text<ROOM>,
@@ -19,7 +19,7 @@ pub struct Bundles {
 
 impl Bundles {
     // Nothing read yet.
-    pub fn new() -> Bundles {
+    pub(crate) fn new() -> Bundles {
         Bundles {
             header: Text::empty(),
             text: Text::empty(),
@@ -35,7 +35,7 @@ impl Bundles {
         }
         let made = self.made?;
         if self.text.read(line, b"Label =") {
-            return made.started(self.text.bytes(), &mut self.bytes);
+            return Some(made.started(self.text.bytes(), &mut self.bytes));
         }
         if self.text.read(line, b"Body =") {
             return made.added(self.header.bytes(), self.text.bytes(), &mut self.bytes);

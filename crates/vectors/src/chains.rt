@@ -93,7 +93,7 @@ pub struct Chains {
 
 impl Chains {
     // Nothing read yet.
-    pub fn new(hash: Hash) -> Chains {
+    pub(crate) fn new(hash: Hash) -> Chains {
         Chains {
             hash,
             lengths: Lengths::default(),

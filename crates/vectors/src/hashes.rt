@@ -2,7 +2,7 @@
 ghost use Rattle.std.specs.Prelude.{◌≡◌, ◌≤◌, take};
 ghost use Rattle.vectors.specs.Chains.{carried, hashed};
 
-// Which function.
+// Which function. It stays an enum, and each use a match: the definition Chains.hashed is by these three.
 #[derive(Clone, Copy)]
 pub enum Hash {
     Sha3_256,

@@ -55,7 +55,7 @@ pub struct Lines<'a, R: Read> {
 }
 
 impl<'a, R: Read> Lines<'a, R> {
-    pub fn new(file: R, buffer: &'a mut [u8]) -> Lines<'a, R>
+    pub(crate) fn new(file: R, buffer: &'a mut [u8]) -> Lines<'a, R>
         ensures file { result.file ≡ file }
         ensures unread { slice_range result.buffer.now result.start result.end ≡ [] }
     {

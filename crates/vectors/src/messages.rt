@@ -27,7 +27,7 @@ fn spelled(bits: usize) -> usize
 
 impl Messages {
     // Nothing read yet.
-    pub fn new(hash: Hash) -> Messages {
+    pub(crate) fn new(hash: Hash) -> Messages {
         Messages {
             hash,
             input: 0,

@@ -12,7 +12,7 @@ pub fn is_named(line: &[u8], name: &[u8]) -> bool
 
 // What follows the name; none where the line has another, or nothing follows.
 #[tactic(auto, using(crate::proofs::Spelled::value_other, crate::proofs::Spelled::value_named, crate::proofs::Spelled::value_empty))]
-pub fn value<'a>(line: &'a [u8], name: &[u8]) -> Option<&'a [u8]>
+pub(crate) fn value<'a>(line: &'a [u8], name: &[u8]) -> Option<&'a [u8]>
     ensures { MatchOption result (value line.now name.now ≡ []) (λ v. (v.now ≡ value line.now name.now) × (0 < length v.now)) }
 {
     let after = line.strip_prefix(name)?;

@@ -47,7 +47,7 @@ fn opens(
 
 impl Pair {
     // Nothing read yet.
-    pub fn empty() -> Pair {
+    pub(crate) fn empty() -> Pair {
         Pair {
             header: Text::empty(),
             body: Text::empty(),
@@ -57,7 +57,7 @@ impl Pair {
     }
 
     // Reads one more line. The tag is the last part: answers whether the line ends the pair.
-    pub fn read(&mut self, line: &[u8]) -> bool {
+    pub(crate) fn read(&mut self, line: &[u8]) -> bool {
         self.header.read(line, b"Header =");
         self.body.read(line, b"Body =");
         self.cipher.read(line, b"Cipher =");
@@ -65,7 +65,7 @@ impl Pair {
     }
 
     // The session after the pair, which it seals and opens again; none where something differs.
-    pub fn passed(&self, s: Session) -> Option<Session> {
+    pub(crate) fn passed(&self, s: Session) -> Option<Session> {
         let header = self.header.bytes();
         let body = self.body.bytes();
         let cipher = self.cipher.bytes();

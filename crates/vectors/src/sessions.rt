@@ -67,7 +67,7 @@ pub struct Sessions {
 
 impl Sessions {
     // Nothing read yet.
-    pub fn new() -> Sessions {
+    pub(crate) fn new() -> Sessions {
         Sessions {
             stated: Stated::default(),
             pair: Pair::empty(),

@@ -27,7 +27,7 @@ impl<const N: usize> Model for Text<N> {
 
 impl<const N: usize> Text<N> {
     // No bytes yet.
-    pub fn empty() -> Text<N>
+    pub(crate) fn empty() -> Text<N>
         ensures { result ≡ [] }
     {
         Text {
@@ -36,7 +36,7 @@ impl<const N: usize> Text<N> {
         }
     }
 
-    pub fn bytes(&self) -> &[u8]
+    pub(crate) fn bytes(&self) -> &[u8]
         ensures within { length result.now ≤ N }
         ensures bytes { result.now ≡ self.now }
     {
