@@ -59,7 +59,7 @@ fn byte(high: u8, low: u8) -> Option<u8>
 
 // Puts the bytes that the digits spell to the front of `out` and answers how many there are; none where the text is not whole
 // bytes or `out` is too short.
-pub fn decode(digits: &[u8], out: &mut [u8]) -> Option<usize>
+pub(crate) fn decode(digits: &[u8], out: &mut [u8]) -> Option<usize>
     ensures within { IfSome result (λ n. n ≤ length out.new) }
     ensures whole { IfSome result (λ n. IsWhole digits.now × (n ≡ length (bytes digits.now)) × (out.new ≡ bytes digits.now ++ drop n out.old)) }
     ensures none { IsNone result → IsWhole digits.now → length out.old < length (bytes digits.now) }

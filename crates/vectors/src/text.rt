@@ -51,7 +51,7 @@ impl<const N: usize> Text<N> {
     }
 
     // Reads the field whose name is given without the blank at its end, and which may be empty. Answers whether the line has it.
-    pub fn read(&mut self, line: &[u8], name: &[u8]) -> bool
+    pub(crate) fn read(&mut self, line: &[u8], name: &[u8]) -> bool
         ensures named { result ≡ is_named line.now name.now }
         ensures other { result ≡ false → self.new ≡ self.old }
         ensures bytes { result ≡ true → Decoded N (drop (length name.now + 1) line.now) self.new }
@@ -64,7 +64,7 @@ impl<const N: usize> Text<N> {
     }
 
     // Reads the field whose name is given with the blank. Where nothing follows it, the bytes stay.
-    pub fn read_value(&mut self, line: &[u8], name: &[u8])
+    pub(crate) fn read_value(&mut self, line: &[u8], name: &[u8])
         ensures other { value line.now name.now ≡ [] → self.new ≡ self.old }
         ensures bytes { 0 < length (value line.now name.now) → Decoded N (value line.now name.now) self.new }
     {
