@@ -53,7 +53,14 @@ fn show(
         return;
     };
     let calls = left(answer).session.calls;
-    lines::print_entry(rt, entry.into(), place, header_at(bytes, place), found.body, calls);
+    lines::print_entry(
+        rt,
+        entry.into(),
+        place,
+        header_at(bytes, place),
+        found.body,
+        calls,
+    );
     lines::print_outcome(
         rt,
         answer.err().map(|refused| refused.fault.refusal),
