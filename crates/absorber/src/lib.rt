@@ -65,7 +65,7 @@ impl<const RATE: usize> Absorber<RATE> {
         let mut lanes = lanes;
         let mut rest = s;
         while let Some((block, behind)) = rest.split_first_chunk::<RATE>() {
-            // The proof's borrow rules take a call's array into a loop's variable by way of a name.
+            // Named first: laid straight over the array that it takes, the call's result gets no proof in this loop.
             let next = sponge::absorbed_block(lanes, block);
             lanes = next;
             rest = behind;

@@ -60,7 +60,8 @@ pub fn entry_at(bundle: &[u8], place: usize) -> Result<Entry, NoEntry>
     })
 }
 
-// The permutation calls that an entry adds to its session's, by the lengths of its header and body.
+// The permutation calls that an entry adds to its session's, by the lengths of its header and body: any lengths, so that it is no part of what
+// advances a session, whose lengths fit.
 pub fn calls_of(header: usize, body: usize) -> u64
     ensures { (result ≡ cost bundle_rate version1.tag header body) × (result ≤ header + body + 2) }
 {

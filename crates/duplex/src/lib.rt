@@ -58,7 +58,7 @@ impl Duplex {
     }
 }
 
-// A rate that is not offered, a piece that leaves no room for its frame, or more output than a block.
+// A rate that is not offered, a piece that leaves no room for its frame, or more output than a block: the rows of its own definition.
 #[tactic(auto, unfolding(crate::specs::Object::duplex_refused))]
 fn is_refused(rate: usize, piece: usize, out: usize) -> bool
     ensures { result ≡ duplex_refused rate piece out }
@@ -85,7 +85,7 @@ pub fn absorbed(a: [u64; 25], s: &[u8], mid: bool, last: bool, rate: Rate) -> [u
     let mut rest = s;
     while most < rest.len() {
         let (piece, after) = rest.split_at(most);
-        // By name: laid straight over the array that it takes, the call gets no proof here.
+        // Named first: laid straight over the array that it takes, the call's result gets no proof in this loop.
         let next = duplexed(st, piece, mid, rate);
         st = next;
         rest = after;
@@ -105,7 +105,7 @@ fn mask_into(a: [u64; 25], p: &[u8], out: &mut [u8])
     }
 }
 
-// One piece of a body sealed: its ciphertext goes to `out`.
+// One piece of a body sealed: its ciphertext goes to `out`. It and `open_piece` differ in what is absorbed, and so stay two.
 fn seal_piece(a: [u64; 25], p: &[u8], frame: bool, rate: Rate, out: &mut [u8]) -> [u64; 25]
     requires room { length p.now < rate.bytes }
     requires as_long { length out.old ≡ length p.now }
@@ -126,7 +126,7 @@ pub fn sealed_into(a: [u64; 25], body: &[u8], rate: Rate, out: &mut [u8]) -> [u6
     let mut at = 0; // by place: after a loop that lends `out` on, the proof knows only its length
     while most < body.len() - at {
         let e = at + most;
-        // By name: laid straight over the array that it takes, the call gets no proof here.
+        // Named first: laid straight over the array that it takes, the call's result gets no proof in this loop.
         let next = seal_piece(st, &body[at..e], true, rate, &mut out[at..e]);
         st = next;
         at = e;
@@ -157,7 +157,7 @@ pub fn opened_into(a: [u64; 25], cipher: &[u8], rate: Rate, out: &mut [u8]) -> [
     let mut at = 0; // a place, as in `sealed_into`
     while most < cipher.len() - at {
         let e = at + most;
-        // By name: laid straight over the array that it takes, the call gets no proof here.
+        // Named first: laid straight over the array that it takes, the call's result gets no proof in this loop.
         let next = open_piece(st, &cipher[at..e], true, rate, &mut out[at..e]);
         st = next;
         at = e;
@@ -186,7 +186,7 @@ pub fn peeked(a: [u64; 25], cipher: &[u8], rate: Rate) -> [u64; 25]
     let mut unopened = cipher;
     while most < unopened.len() {
         let (piece, rest) = unopened.split_at(most);
-        // By name: laid straight over the array that it takes, the call gets no proof here.
+        // Named first: laid straight over the array that it takes, the call's result gets no proof in this loop.
         let next = peek_piece(st, piece, true, rate);
         st = next;
         unopened = rest;
@@ -211,7 +211,7 @@ pub fn drawn_into(a: [u64; 25], rate: Rate, out: &mut [u8]) -> [u64; 25]
     let mut at = 0; // a place, as in `sealed_into`
     while most < out.len() - at {
         sponge::put_bytes(st, &mut out[at..at + most]);
-        // By name: laid straight over the array that it takes, the call gets no proof here.
+        // Named first: laid straight over the array that it takes, the call's result gets no proof in this loop.
         let next = blanked(st, rate);
         st = next;
         at += most;

@@ -25,7 +25,7 @@ pub fn survey(rt: &impl Print, bytes: &[u8]) -> Option<usize>
     }
 }
 
-// The header of the entry at a place; empty where no entry is whole.
+// The header of the entry at a place; empty, as its definition has it, where no entry is whole.
 #[tactic(auto, using(bundle::proofs::Entries::whole_at))]
 fn header_at(bytes: &[u8], place: usize) -> &[u8]
     ensures { result.now ≡ whole_header bytes.now place }

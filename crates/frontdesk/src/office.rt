@@ -19,7 +19,8 @@ pub fn open_session(key: &[u8]) -> Session
     }
 }
 
-// The session that a call left: the next one, or where it was refused the one that it took.
+// The session that a call left: the next one, or where it was refused the one that it took. Openings and sessions have an answer of their
+// own, and so a match of their own.
 pub fn left(answer: Result<Session, Refused>) -> Session
     ensures { result ≡ left answer }
 {
@@ -73,7 +74,7 @@ pub fn add(
     answer
 }
 
-// Where the bundle in a buffer ends; 0 where no bundle stands there.
+// Where the bundle in a buffer ends; 0 where no bundle stands there, as its line is printed.
 fn end_of(buffer: &[u8]) -> usize
     ensures stated { result ≡ bundle_end buffer.now }
     ensures within { result ≤ length buffer.now }

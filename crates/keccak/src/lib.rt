@@ -162,7 +162,7 @@ pub fn permuted(a: [u64; 25]) -> [u64; 25]
 {
     let mut b = a;
     for constant in tables::CONSTANTS {
-        // By name: laid straight over the array that it takes, the call gets no proof here.
+        // Named first: laid straight over the array that it takes, the call's result gets no proof in this loop.
         let next = one_round(b, constant);
         b = next;
     }

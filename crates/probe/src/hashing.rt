@@ -36,7 +36,7 @@ fn permuted_times(mut a: [u64; 25], times: u64) -> [u64; 25]
     ensures { result ≡ iterate f1600 a times }
 {
     for _turn in 0..times {
-        // By name: laid straight over the array that it takes, the call gets no proof here.
+        // Named first: laid straight over the array that it takes, the call's result gets no proof in this loop.
         let next = keccak::permuted(a);
         a = next;
     }

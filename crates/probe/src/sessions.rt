@@ -10,7 +10,8 @@ ghost use Rattle.probe.specs.Sessions.{of_session};
 use refusal::Refusal;
 use spongewrap::{Refused, Session};
 
-// A call's answer by its number. The session that the call left is laid over the image, after a refusal too.
+// A session's answer by its number; a bundle's, which has a place besides, has a function of its own. The session that the call left is laid
+// over the image, after a refusal too.
 fn put_answer(answer: Result<Session, Refused>, image: &mut [u8; image::LENGTH]) -> u8
     ensures number { result ≡ (answer_of answer).number }
     ensures image { image.new ≡ image_of (answer_of answer).session }

@@ -73,7 +73,7 @@ fn absorbed_message(a: [u64; 25], message: &[u8], suffix: u8, rate: usize) -> [u
     let mut st = a;
     let mut at = 0;
     while rate <= message.len() - at {
-        // By name: laid straight over the array that it takes, the call gets no proof here.
+        // Named first: laid straight over the array that it takes, the call's result gets no proof in this loop.
         let next = absorbed_block(st, &message[at..at + rate]);
         st = next;
         at += rate;
@@ -114,7 +114,7 @@ pub fn squeeze_into(a: [u64; 25], rate: usize, out: &mut [u8])
     let mut at = 0;
     while rate < out.len() - at {
         put_bytes(st, &mut out[at..at + rate]);
-        // By name: laid straight over the array that it takes, the call gets no proof here.
+        // Named first: laid straight over the array that it takes, the call's result gets no proof in this loop.
         let next = keccak::permuted(st);
         st = next;
         at += rate;
@@ -130,6 +130,8 @@ pub fn hash_into(message: &[u8], suffix: u8, rate: usize, out: &mut [u8])
     let zeros = [0u64; 25];
     squeeze_into(absorbed_message(zeros, message, suffix, rate), rate, out);
 }
+
+// The standard's three hashes, each one call of the function above.
 
 // SHA3-256 (FIPS 202, section 6.1).
 pub fn sha3_256(message: &[u8]) -> [u8; 32]

@@ -83,6 +83,7 @@ pub fn of_pair(
 
 // ---- of the desk's sessions
 
+// A row of the desk's kind; `duplex` tests the same rates for a definition of its own.
 fn bad_rate(rate: u16) -> bool
     ensures { result ≡ bad_rate desk.rates rate }
 {
