@@ -1,5 +1,5 @@
 -- Lines of a buffer, and a buffer that is refilled.
-use Rattle.std.proofs.Common.{◌≡◌, ℕ, ◌+◌, ◌-◌, ◌≤◌, ◌<◌, Bool, true, false, List, ◌++◌, None, Some, length, take, drop, get_or, refl, sym, ap, ◌∙◌, arith}
+use Rattle.std.proofs.Common.{◌≡◌, ℕ, ◌+◌, ◌-◌, ◌≤◌, ◌<◌, Bool, true, false, List, [], ◌∷◌, ◌++◌, None, Some, length, take, drop, get_or, refl, sym, ap, ◌∙◌, arith}
 use Rattle.std.specs.List.{copy_within, position_or_len}
 use Rattle.std.proofs.lemmas.List.{take-take, drop-drop, drop-take, take_all, length-take, length-take-le, length-drop}
 use Rattle.std.proofs.lemmas.List.Edits.{take-paste}
@@ -9,41 +9,36 @@ use Rattle.std.proofs.lemmas.Option.{cond_some}
 use Rattle.std.specs.Prelude.{slice_range, eqb}
 use borrow.Author.Tests.{ltb-true}
 use Rattle.refusal.specs.Rows.{pick}
-use Rattle.vectors.specs.Spelled.{line_end}
-use Rattle.vectors.proofs.Spelled.{end_is}
+use Rattle.vectors.proofs.Spelled.{equal}
 use Rattle.vectors.specs.FirstLine.{newline, unreturned, first_line}
 
-pick_le : (t : Bool) (x y n : ℕ) → x ≤ n → y ≤ n → pick t x y ≤ n
-unfolding pick
-pick_le true x y n p q = p
-pick_le false x y n p q = q
-
 -- a line without its return is the front of it
-fits : (l : List ℕ) → line_end 0 (length l) l ≤ length l
-unfolding line_end
-fits l = pick_le _ _ _ _ (pick_le _ _ _ _ (omega arith) (omega arith)) (omega arith)
+front : (t : Bool) (l m : List ℕ) → m ≡ pick t (take (length l - 1) l) l → (length m ≤ length l) × (m ≡ take (length m) l)
+unfolding pick
+front true l m e =
+    let p : length m ≡ length l - 1 = ap length e ∙ length-take-le (length l - 1) l (omega arith) in
+    (omega (arith, p), e ∙ ap (λ (n : ℕ). take n l) (sym p))
+front false l m e =
+    let p : length m ≡ length l = ap length e in
+    (omega (arith, p), e ∙ sym (take_all (length m) l (omega (arith, p))))
 
 front_is : (l m : List ℕ) → m ≡ unreturned l → (length m ≤ length l) × (m ≡ take (length m) l)
 unfolding unreturned
-front_is l m e =
-    let k : ℕ = line_end 0 (length l) l in
-    let p : length m ≡ k = ap length e ∙ length-take-le k l (fits l) in
-    (omega (arith, fits l), e ∙ ap (λ (n : ℕ). take n l) (sym p))
+front_is l m e = front (eqb (get_or l (length l - 1) 0) 13) l m e
 
 -- an empty line, one that ends in a return, and one that does not
 pub unreturned_empty : (l : List ℕ) → length l < 1 → l ≡ unreturned l
-unfolding unreturned
-unreturned_empty l p = sym (take_all _ l (omega (arith, end_is 0 (length l) 0 l (λ q r. omega arith) (λ q d. omega arith) (λ q. omega arith))))
+unfolding unreturned pick
+unreturned_empty [] p = refl
+unreturned_empty (b ∷ l) p = absurd (omega arith)
 
 pub unreturned_return : (l : List ℕ) → get_or l (length l - 1) 0 ≡ 13 → 1 ≤ length l → take (length l - 1) l ≡ unreturned l
 unfolding unreturned
-unreturned_return l e p =
-    ap (λ (n : ℕ). take n l) (end_is 0 (length l) (length l - 1) l (λ q r. refl) (λ q d. absurd (d e)) (λ q. omega arith))
+unreturned_return l e p = equal (get_or l (length l - 1) 0) 13 _ _ (take (length l - 1) l) (λ q. refl) (λ d. absurd (d e))
 
 pub unreturned_other : (l : List ℕ) → (get_or l (length l - 1) 0 ≡ 13 → ⊥) → l ≡ unreturned l
 unfolding unreturned
-unreturned_other l d =
-    sym (take_all (length l) l (omega arith)) ∙ ap (λ (n : ℕ). take n l) (end_is 0 (length l) (length l) l (λ q r. absurd (d r)) (λ q r. refl) (λ q. refl))
+unreturned_other l d = equal (get_or l (length l - 1) 0) 13 _ _ l (λ e. absurd (d e)) (λ q. refl)
 
 pub first_none : (b : List ℕ) → None ≡ newline b → first_line b ≡ None
 unfolding first_line

@@ -18,7 +18,7 @@ use Rattle.std.specs.Prelude.{unsigned_abs}
 use Rattle.compare.specs.Same.{same}
 use Rattle.compare.proofs.Same.{same_eq, same_is, other_is}
 use Rattle.vectors.specs.Bounds.{setting}
-use Rattle.vectors.specs.Spelled.{digit, byte, number_from, is_named, value, number_after, line_end}
+use Rattle.vectors.specs.Spelled.{digit, byte, number_from, is_named, value, number_after}
 
 pub picked : {A : Type 0} (t : Bool) (x y r : A) → (t ≡ true → r ≡ x) → (t ≡ false → r ≡ y) → r ≡ pick t x y
 unfolding pick
@@ -135,9 +135,3 @@ number_none line name n e = equal (length (value line name)) 0 _ _ n (λ p. refl
 pub number_some : (line name v : List ℕ) (n r : ℕ) → v ≡ value line name → 0 < length v → r ≡ number_from 0 v → r ≡ number_after line name n
 unfolding number_after
 number_some line name v n r e l q = equal (length (value line name)) 0 _ _ r (λ p. let z : length v ≡ 0 = ap length e ∙ p in absurd (omega arith)) (λ p. rw e at q)
-
--- a line that ends in a return, one that does not, and an empty one
-pub end_is : (a e r : ℕ) (b : List ℕ) → (a < e → get_or b (e - 1) 0 ≡ 13 → r ≡ e - 1) → (a < e → (get_or b (e - 1) 0 ≡ 13 → ⊥) → r ≡ e)
-    → (e ≤ a → r ≡ e) → r ≡ line_end a e b
-unfolding line_end
-end_is a e r b p q s = below a e _ _ r (λ l. equal (get_or b (e - 1) 0) 13 _ _ r (p l) (q l)) s

@@ -1,8 +1,8 @@
 -- The first line of some bytes.
-use Rattle.std.specs.Prelude.{◌≡◌, ℕ, ◌+◌, ◌≤◌, List, Option, None, Some, length, take, drop, eqb}
+use Rattle.std.specs.Prelude.{◌≡◌, ℕ, ◌+◌, ◌-◌, ◌≤◌, List, Option, None, Some, length, take, drop, get_or, eqb}
 use Rattle.std.specs.List.{position}
 use Rattle.std.specs.Option.{MatchOption, option_map}
-use Rattle.vectors.specs.Spelled.{line_end}
+use Rattle.refusal.specs.Rows.{pick}
 use Rattle.vectors.specs.declared.lines.Size.{Size}
 
 -- where the first newline stands
@@ -11,7 +11,7 @@ newline bytes = position (λ b. eqb b 10) bytes
 
 -- a line without the return at its end
 unfoldable pub unreturned : List ℕ → List ℕ
-unreturned line = take (line_end 0 (length line) line) line
+unreturned line = pick (eqb (get_or line (length line - 1) 0) 13) (take (length line - 1) line) line
 
 -- the line before the first newline, and what follows; none where no newline is there
 unfoldable pub first_line : List ℕ → Option (List ℕ × List ℕ)

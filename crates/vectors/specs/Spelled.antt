@@ -43,10 +43,6 @@ value line name = pick (is_named line name) (drop (length name) line) []
 unfoldable pub number_after : List ℕ → List ℕ → ℕ → ℕ
 number_after line name n = pick (eqb (length (value line name)) 0) n (number_from 0 (value line name))
 
--- where the line from a on ends whose newline is at e: before a return
-unfoldable pub line_end : ℕ → ℕ → List ℕ → ℕ
-line_end a e b = pick (ltb a e) (pick (eqb (get_or b (e - 1) 0) 13) (e - 1) e) e
-
 -- the line ends a case of NIST's: it has a digest or an output
 abbrev pub HasResult : List ℕ → Type 0
 HasResult line = (0 < length (value line (codes "MD = "))) ⊎ (0 < length (value line (codes "Output = ")))
