@@ -19,6 +19,7 @@ use Rattle.spongewrap.proofs.orders.of_wrap.Reads as of_wrap
 use Rattle.spongewrap.proofs.orders.of_unwrap.Reads as of_unwrap
 use Rattle.spongewrap.proofs.orders.of_settings.Reads as of_settings
 use Rattle.spongewrap.proofs.orders.of_own.Reads as of_own
+use Rattle.spongewrap.proofs.orders.of_parts.Reads as of_parts
 use Rattle.spongewrap.proofs.orders.of_pair.Reads as of_pair
 use Rattle.spongewrap.proofs.orders.is_full.Reads as is_full
 
@@ -74,8 +75,11 @@ of_settings_outcome κs a x y s t e h = told_alike x y (e ∙ sym h)
 pub of_own_outcome : (κs : Lfts 0) (a x y s t : _) → of_own.Post κs a x s → of_own.Post κs a y t → x ≡ y
 of_own_outcome κs a x y s t e h = told_alike x y (e ∙ sym h)
 
+pub of_parts_outcome : (κs : Lfts 0) (a x y s t : _) → of_parts.Post κs a x s → of_parts.Post κs a y t → x ≡ y
+of_parts_outcome κs a x y s t e h = told_alike x y (e ∙ sym h)
+
 pub of_pair_outcome : (κs : Lfts 0) (a x y s t : _) → of_pair.Post κs a x s → of_pair.Post κs a y t → x ≡ y
-of_pair_outcome κs a x y s t e h = told_alike x y (e ∙ sym h)
+of_pair_outcome κs a x y s t e h = e ∙ sym h
 
 pub is_full_outcome : (κs : Lfts 0) (a x y s t : _) → is_full.Post κs a x s → is_full.Post κs a y t → x ≡ y
 is_full_outcome κs a x y s t e h = e ∙ sym h

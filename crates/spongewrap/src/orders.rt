@@ -58,9 +58,9 @@ pub fn of_own(rate: bool, tag: bool, full: bool) -> Result<(), Refusal>
     Ok(())
 }
 
-// The rows of a pair: `own` is what the session's own rows came to, and `short` says that the output lacks room.
+// The rows of a pair behind a session's own: `own` is what those came to, and `short` says that the output lacks room.
 #[tactic(auto, using(refusal::proofs::Rows::rows))]
-pub fn of_pair(
+pub fn of_parts(
     own: Result<(), Refusal>,
     header: usize,
     body: usize,
@@ -79,6 +79,17 @@ pub fn of_pair(
         return Err(Refusal::NoRoom);
     }
     Ok(())
+}
+
+// The same by numbers, behind rows that came to any number: 0 passes them, and another is the answer.
+#[tactic(auto, using(refusal::proofs::Rows::rows))]
+pub fn of_pair(own: u8, header: usize, body: usize, short: bool) -> u8
+    ensures { result ≡ by own own (first (part_rows header body ++ (short, 6) ∷ [])) }
+{
+    if own != 0 {
+        return own;
+    }
+    refusal::number(of_parts(Ok(()), header, body, short))
 }
 
 // ---- of the desk's sessions
@@ -109,7 +120,7 @@ pub fn of_wrap(s: Session, header: usize, body: usize, out: usize) -> Result<(),
 {
     let tag = s.tag as usize;
     let own = of_session(s, bad_rate(s.rate), bad_size(tag));
-    of_pair(own, header, body, refusal::is_short(out, body, tag))
+    of_parts(own, header, body, refusal::is_short(out, body, tag))
 }
 
 // The rows of an unwrap that come before its tag's.
@@ -117,5 +128,5 @@ pub fn of_unwrap(s: Session, header: usize, body: usize, out: usize) -> Result<(
     ensures { told result ≡ first (ready_rows desk s header body out) }
 {
     let own = of_session(s, bad_rate(s.rate), bad_size(s.tag as usize));
-    of_pair(own, header, body, out < body)
+    of_parts(own, header, body, out < body)
 }

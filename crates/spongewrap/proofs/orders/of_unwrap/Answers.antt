@@ -7,4 +7,4 @@ use Rattle.spongewrap.proofs.orders.of_unwrap.Goals as goal
 pub returns : goal.returns
 returns c =
     let a = c.args in
-    pair_is desk a.s a.header a.body _ _ _ _ _ _ c.bad_rate.ensures c.bad_size.ensures c.of_session-own.ensures refl c.of_pair.ensures
+    pair_is desk a.s a.header a.body _ _ _ _ _ _ c.bad_rate.ensures c.bad_size.ensures c.of_session-own.ensures refl c.of_parts.ensures

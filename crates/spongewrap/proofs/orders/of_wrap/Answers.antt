@@ -8,4 +8,4 @@ pub returns : goal.returns
 unfolding wrap_refusal
 returns c =
     let a = c.args in
-    pair_is desk a.s a.header a.body _ _ _ _ _ _ c.bad_rate.ensures c.bad_size.ensures c.of_session-own.ensures c.is_short.ensures c.of_pair.ensures
+    pair_is desk a.s a.header a.body _ _ _ _ _ _ c.bad_rate.ensures c.bad_size.ensures c.of_session-own.ensures c.is_short.ensures c.of_parts.ensures

@@ -3,7 +3,7 @@ use mathlib.Core.Path.{sym}
 use Rattle.std.proofs.lemmas.Result.{err_from_is_err_and}
 use Rattle.refusal.proofs.Rows.{kept}
 use Rattle.refusal.proofs.Numbers.{numbered_refusal}
-use Rattle.spongewrap.proofs.orders.of_pair.Goals as goal
+use Rattle.spongewrap.proofs.orders.of_parts.Goals as goal
 
 pub returns-in_err-own : goal.returns-in_err-own
 returns-in_err-own c =
