@@ -1,6 +1,6 @@
 // The file of bundles: each is started with its label and added to, every entry is opened as soon as it stands, and the bytes are
 // compared. A bundle of the file is one case, which agrees if all of this does.
-ghost use Rattle.std.specs.Prelude.{IsTrue, codes};
+ghost use Rattle.std.specs.Prelude.{◌≡◌, [], IsTrue, codes};
 ghost use Rattle.vectors.specs.Spelled.{is_named};
 
 use crate::cases::Cases;
@@ -19,7 +19,9 @@ pub struct Bundles {
 
 impl Bundles {
     // Nothing read yet.
-    pub(crate) fn new() -> Bundles {
+    pub(crate) fn new() -> Bundles
+        ensures { result.header ≡ [] }
+    {
         Bundles {
             header: Text::empty(),
             text: Text::empty(),

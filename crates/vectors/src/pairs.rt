@@ -1,4 +1,6 @@
 // The pairs of the file of sessions: each is read part by part, sealed by its session, and opened by the same.
+ghost use Rattle.std.specs.Prelude.{◌≡◌, []};
+
 use crate::text::{ROOM, Text};
 use spongewrap::Session;
 
@@ -47,7 +49,9 @@ fn opens(
 
 impl Pair {
     // Nothing read yet.
-    pub(crate) fn empty() -> Pair {
+    pub(crate) fn empty() -> Pair
+        ensures { (result.header ≡ []) × (result.body ≡ []) × (result.cipher ≡ []) × (result.tag ≡ []) }
+    {
         Pair {
             header: Text::empty(),
             body: Text::empty(),

@@ -1,6 +1,6 @@
 // The file of sessions: each is opened, its pairs are sealed and opened again one after the other, and the state that it comes to is
 // compared. A session of the file is one case, which agrees if all of this does.
-ghost use Rattle.std.specs.Prelude.{◌≡◌, IsTrue, None, Some, codes, eqb};
+ghost use Rattle.std.specs.Prelude.{◌≡◌, [], IsTrue, None, Some, codes, eqb};
 ghost use Rattle.refusal.specs.Rows.{pick};
 ghost use Rattle.spongewrap.specs.Desk.{desk};
 ghost use Rattle.spongewrap.specs.Sessions.{opens};
@@ -67,7 +67,9 @@ pub struct Sessions {
 
 impl Sessions {
     // Nothing read yet.
-    pub(crate) fn new() -> Sessions {
+    pub(crate) fn new() -> Sessions
+        ensures { (result.pair.header ≡ []) × (result.pair.body ≡ []) × (result.pair.cipher ≡ []) × (result.pair.tag ≡ []) }
+    {
         Sessions {
             stated: Stated::default(),
             pair: Pair::empty(),
