@@ -17,7 +17,8 @@ use Rattle.sponge.specs.Hashes.{message_blocks, hash}
 use Rattle.sponge.proofs.Padding.{length-tail}
 use Rattle.sponge.proofs.Pieces.{blocks_of_front, absorb_more}
 use Rattle.absorber.proofs.Bytewise.{bytes-append, bytes_one, bytes_zeros, bytes_take, bytes_drop, mixed_zeros, mixed_at, mixed_snoc}
-use Rattle.absorber.specs.Absorbing.{Absorbing, AreBytes, edge, fresh, turned, absorb_byte, absorb_string, ended, Absorbed}
+use Rattle.absorber.specs.declared.Absorbing.{Absorbing}
+use Rattle.absorber.specs.Absorbing.{AreBytes, edge, fresh, turned, absorb_byte, absorb_string, ended, Absorbed}
 
 bytes_tail : (s m : ℕ) → s < 128 → AreBytes (tail s m)
 unfolding tail

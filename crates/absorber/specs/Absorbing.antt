@@ -5,11 +5,7 @@ use mathlib.Core.List.{List, [], ◌∷◌, ◌++◌, foldl}
 use Rattle.sponge.specs.Bytes.{mixed}
 use Rattle.sponge.specs.Padding.{tail}
 use Rattle.sponge.specs.Sponge.{zeros, iterate}
-
--- a sponge between two parts: its lanes, and how many bytes of the next block they have in
-pub record Absorbing : Type 0 where
-  pub lanes : List ℕ
-  pub offset : ℕ
+use Rattle.absorber.specs.declared.Absorbing.{Absorbing}
 
 -- every element is a byte
 abbrev pub AreBytes : List ℕ → Type 0

@@ -16,7 +16,8 @@ use Rattle.refusal.specs.Rows.{pick}
 use Rattle.std.specs.Int.{bytes_high_first}
 use Rattle.fields.specs.Numbers.{bytes_of}
 use Rattle.fields.proofs.Numbers.{length-bytes_of, bytes_join, written_is}
-use Rattle.absorber.specs.Absorbing.{Absorbing, Absorbed}
+use Rattle.absorber.specs.declared.Absorbing.{Absorbing}
+use Rattle.absorber.specs.Absorbing.{Absorbed}
 use Rattle.absorber.proofs.Parts.{parts, offset_is}
 use Rattle.kmac.specs.Encodings.{first_from, size, left_encode, filled, bytepad}
 

@@ -14,7 +14,8 @@ use Rattle.refusal.proofs.Rows.{kept, made, all_clear}
 use Rattle.sponge.specs.Sponge.{squeeze}
 use Rattle.sponge.specs.Hashes.{hash}
 use Rattle.sponge.proofs.Squeeze.{length-squeeze}
-use Rattle.absorber.specs.Absorbing.{Absorbing, fresh, ended, Absorbed, Ready}
+use Rattle.absorber.specs.declared.Absorbing.{Absorbing}
+use Rattle.absorber.specs.Absorbing.{fresh, ended, Absorbed, Ready}
 use Rattle.absorber.proofs.Parts.{parts, hash_is}
 use Rattle.kmac.specs.Encodings.{right_encode, encode_string, bytepad}
 use Rattle.kmac.specs.Functions.{kmac_name, cshake, new_x}

@@ -8,14 +8,14 @@ use Rattle.std.proofs.lemmas.List.{take-replicate}
 use Rattle.keccak.specs.Rounds.{f1600}
 use Rattle.sponge.specs.Padding.{padded}
 use Rattle.sponge.specs.Sponge.{absorb_block}
-use Rattle.absorber.proofs.Parts.{at, ended_by}
-use Rattle.absorber.proofs.Absorber.ended.Goals as goal
+use Rattle.absorber.proofs.Parts.{ended_by}
+use Rattle.absorber.proofs.Absorbing.ended.Goals as goal
 
 pub returns : goal.returns
-returns g c =
-    let v = c.self.inside in
-    let n = v.offset in
-    let r = c.self.invariant c.requires.0 in
+returns c =
+    let a = c.args in
+    let n = a.self.offset in
+    let r = c.requires.0 in
     let z : take {A = ℕ} n (replicate 200 0) ≡ replicate n 0 = take-replicate n 200 0 (omega arith) in
-    rw (← c.self.view_is) (ended_by 64 f1600 _ (omega arith) r.most (at v.lanes n) _ _ r.inside c.requires.1
-    (c.absorbed_piece.ensures ∙ ap (λ (p : List ℕ). absorb_block 64 f1600 v.lanes (padded g.row.RATE c.args.suffix p)) z))
+    ended_by 64 f1600 _ (omega arith) r.most a.self _ _ r.inside c.requires.1
+    (c.absorbed_piece.ensures ∙ ap (λ (p : List ℕ). absorb_block 64 f1600 a.self.lanes (padded a.rate a.suffix p)) z)
