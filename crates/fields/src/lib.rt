@@ -64,10 +64,21 @@ impl Number for u64 {
     }
 }
 
+// Bytes copied one by one: of `copy_from_slice` from one lent buffer to another the compiler makes a call of `memmove`, and an archive for C is
+// to need no more than `memcpy` from outside.
+fn copy(s: &[u8], out: &mut [u8])
+    requires { length out.old ≡ length s.now }
+    ensures { out.new ≡ s.now }
+{
+    for (i, x) in out.iter_mut().enumerate() {
+        *x = s[i];
+    }
+}
+
 // A string stored from a place on.
 pub fn put_string(b: &mut [u8], at: usize, s: &[u8])
     requires { at + length s.now ≤ length b.old }
     ensures { b.new ≡ sets b.old at s.now }
 {
-    b[at..at + s.len()].copy_from_slice(s);
+    copy(s, &mut b[at..at + s.len()]);
 }

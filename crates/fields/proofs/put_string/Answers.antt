@@ -8,4 +8,4 @@ use Rattle.fields.proofs.put_string.Goals as goal
 pub returns : goal.returns
 returns c =
     let a = c.args in
-    rw c.copy_from_slice.ensures.after (stored_over a.b.now a.s.now a.at (a.at + length a.s.now) refl c.requires)
+    rw c.copy.ensures (stored_over a.b.now a.s.now a.at (a.at + length a.s.now) refl c.requires)
