@@ -67,18 +67,19 @@ impl From<Refusal> for Fault {
     }
 }
 
-// What an opened entry answers: the place of the next one, and the session that opens it.
+// What an opened entry answers: the session that opens the next one, and its place. In each answer the session stands first, as in
+// `spongewrap`'s.
 #[derive(Clone, Copy)]
 pub struct Opened {
-    pub next: usize,
     pub session: Session,
+    pub next: usize,
 }
 
 // What a refused call answers: why and where, and the session as it was handed in.
 #[derive(Clone, Copy)]
 pub struct Refused {
-    pub fault: Fault,
     pub session: Session,
+    pub fault: Fault,
 }
 
 // What a bundle refuses of a session: 1, 3, or 7.

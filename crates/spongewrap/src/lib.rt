@@ -31,10 +31,11 @@ pub struct Session {
 }
 
 // What a refused call answers: why, and the session as it was handed in. A refused open has a session of zeros.
+// The session stands first, so that it lies where an accepted answer has its own, and handing an answer on moves nothing.
 #[derive(Clone, Copy)]
 pub struct Refused {
-    pub refusal: Refusal,
     pub session: Session,
+    pub refusal: Refusal,
 }
 
 // The refusal alone, for callers that keep the session themselves.
