@@ -85,8 +85,10 @@ desk: lib
 	    if command -v valgrind > target/c/out; then valgrind -q --error-exitcode=1 ./target/c/$$each > target/c/out; fi; \
 	done
 
-# Both archives and the lister beside the reference. All of the Rust side is built, and the compiler's advice is taken.
+# Both archives and the lister beside the reference. From outside the archives need `memcpy` alone. All of the Rust side is built, and the
+# compiler's advice is taken.
 compare: probe desk target/bin/lister
+	! nm -u target/staticlib/lib*.a | grep ' U ' | grep -vw memcpy
 	cd rust && $(CARGO) clippy $(RELEASE) --all-targets -- -D warnings
 	cd rust && $(CARGO) build $(RELEASE) --all-targets
 	cd rust && $(CARGO) test $(RELEASE)
