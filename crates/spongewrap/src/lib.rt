@@ -31,7 +31,7 @@ pub struct Session {
 }
 
 // What a refused call answers: why, and the session as it was handed in. A refused open has a session of zeros.
-// The session stands first, so that it lies where an accepted answer has its own, and handing an answer on moves nothing.
+// The session stands first, where an accepted answer has its own: behind the refusal it was copied in pieces at each step.
 #[derive(Clone, Copy)]
 pub struct Refused {
     pub session: Session,
